@@ -3,7 +3,7 @@ use Rattle.std.proofs.Common.{◌≡◌, ℕ, ◌<◌, ◌≤◌, List, [], ◌�
 use Rattle.std.specs.Bool.{then_some}
 use Rattle.std.specs.Global.{Box}
 use Rattle.std.specs.Option.{ok_or}
-use Rattle.std.proofs.lemmas.Bool.{le-ltb}
+use Rattle.std.proofs.lemmas.Bool.{le-ltb, lt-ltb}
 use Rattle.std.proofs.lemmas.List.{length-map}
 use Rattle.cc_defs.specs.declared.refusal.Fault.{Fault}
 use Rattle.cc_defs.specs.declared.refusal.Fault.TheVariants as faults
@@ -64,6 +64,12 @@ is_parsed tokens part other some are short found = record {
   short = short;
   spelled = record { whole = statement-takes (token_views tokens) are (plain_part part.value) found; line = sym (line_of tokens other some) };
 }
+
+pub is_long : (tokens : List Token) (file : ℕ) (fault : Fault) (limit : LimitAt) (number : ℕ) → limit ≡ token_limit (seen tokens) → number ≡ limit_number limit →
+    number < length tokens → fault ≡ faults.Refused (refusal_at 14 file (Some limit) (token_views tokens)) → HasRefused file (token_views tokens) fault
+is_long tokens file fault limit number is_limit is_number past is_fault =
+    subst (HasRefused file (token_views tokens)) (sym is_fault)
+    (inl (lt-ltb _ _ (subst (λ n. n < length (seen tokens)) (is_number ∙ ap limit_number is_limit) (simp length-map past)), ap (λ (l : LimitAt). refusal_at 14 file (Some l) (token_views tokens)) is_limit))
 
 pub is_refused : (tokens : List Token) (file : ℕ) (fault : Fault) → IsFalse (is_too_long (seen tokens)) →
     statement_at (seen tokens) ≡ None → fault ≡ faults.Refused (refusal_at 3 file None (token_views tokens)) →

@@ -1,5 +1,5 @@
 -- A turn of the reader of formulas is a step of what defines it.
-use Rattle.std.proofs.Common.{◌≡◌, ◌≢◌, ℕ, zero, suc, ◌-◌, ◌<◌, List, Option, Some, None, drop, refl, ap, sym, ◌∙◌, arith}
+use Rattle.std.proofs.Common.{◌≡◌, ◌≢◌, ℕ, zero, suc, ◌-◌, ◌<◌, List, Option, Some, None, Err, drop, refl, ap, sym, ◌∙◌, arith}
 use Rattle.std.proofs.lemmas.Option.{same_Some}
 use Rattle.std.specs.Global.{Box}
 use Rattle.cc_defs.specs.declared.token.Token.{Token}
@@ -9,7 +9,10 @@ use Rattle.cc_defs.specs.Trees.{PlainTree, plain_tree}
 use Rattle.cc_syntax.specs.declared.formulas.Turn.{Turn}
 use Rattle.cc_syntax.specs.declared.formulas.Turn.TheVariants as turns
 use Rattle.cc_syntax.specs.Formulas.{PlainFrame, Wants, Has, Ends, Held, run_from}
-use Rattle.cc_syntax.specs.Turns.{plain_turn, turn_of}
+use Rattle.cc_syntax.specs.declared.frames.Frame.{Frame}
+use Rattle.cc_syntax.specs.declared.stop.Stop.{Stop}
+use Rattle.cc_syntax.specs.declared.stop.Stop.TheVariants as stops
+use Rattle.cc_syntax.specs.Turns.{Turns, plain_turn, turn_of}
 use Rattle.cc_syntax.specs.Views.{seen}
 
 -- a formula that ended is read
@@ -38,6 +41,11 @@ turned_out zero held some e = absurd (omega arith)
 turned_out (suc n) (frames, Wants here) some e = rw e refl
 turned_out (suc n) (frames, Has tree here) some e = rw e refl
 turned_out (suc n) (frames, Ends tree rest) some e = absurd cc
+
+-- a turn that stops for want of a tree has nothing behind it
+pub turns-not : (tokens : List Token) (frames : List Frame) (stop : Stop) (found : Option Held) → Turns tokens frames (Err stop) found → stop ≡ stops.NoTree → found ≡ None
+turns-not tokens frames stops.NoTree found turns e = turns
+turns-not tokens frames stops.OutOfMemory found turns e = absurd cc
 
 -- no turn is left, and the formula does not end
 pub turns-spent : (tokens : List Token) (frames : List PlainFrame) (turn : Turn) (left : ℕ) → left ≡ 0 → ((tree : _) (at : ℕ) → turn ≢ turns.Ends tree at)

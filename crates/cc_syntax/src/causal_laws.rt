@@ -199,7 +199,6 @@ fn may_cause_words(tokens: &[Token], at: usize) -> Result<usize, Stop>
 }
 
 /// What an action does, behind it.
-#[tactic(auto, using(crate::proofs::Acting::acts_not))]
 fn acted<'s>(
     alloc: Global,
     tokens: &[Token<'s>],

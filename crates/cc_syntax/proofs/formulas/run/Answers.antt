@@ -1,5 +1,6 @@
-use Rattle.std.proofs.Common.{◌∙◌, arith}
-use Rattle.cc_syntax.proofs.Turning.{ended-so, turned-on, turns-spent}
+use Rattle.std.proofs.Common.{◌∙◌, [], arith}
+use Rattle.cc_syntax.proofs.Stops.{stopped}
+use Rattle.cc_syntax.proofs.Turning.{ended-so, turned-on, turned_out, turns-not, turns-spent}
 use Rattle.cc_syntax.proofs.formulas.run.Goals as goal
 
 pub loop-preserved : goal.loop-preserved
@@ -13,3 +14,8 @@ returns-in-Ends c = ended-so c.args.tokens.now _ _ c.loop.turn _ _ c.loop.invari
 
 pub returns-in-Ends-turn : goal.returns-in-Ends-turn
 returns-in-Ends-turn c = ended-so c.args.tokens.now _ _ c.loop.turn _ _ c.loop.invariant c.in-Ends-turn.is
+
+pub returns-in_err-turn-in_default : goal.returns-in_err-turn-in_default
+returns-in_err-turn-in_default c =
+    stopped _ c.args.tokens.now c.from_residual.result c.in_err-turn-in_default.field-0.0 _ c.from_residual.ensures.1
+    (λ e. c.loop.invariant ∙ turned_out _ _ (omega arith) (turns-not c.args.tokens.now [] _ _ c.in_err-turn-in_default.ensures e))
