@@ -219,13 +219,9 @@ impl<'s> Item<'s> for Shape<'s> {
     #[tactic(auto, unfolding(crate::specs::Declarations::shape_at))]
     fn read(alloc: Global, tokens: &[Token<'s>], at: usize) -> Result<(Self, usize), Stop> {
         let (name, next) = name(tokens, at)?;
-        match sorts(alloc, tokens, next) {
-            Ok((sorts, next)) => {
-                let sorts = List::of(sorts);
-                placed(Shape { name, sorts }, next)
-            }
-            Err(stop) => Err(stop),
-        }
+        let (sorts, next) = sorts(alloc, tokens, next)?;
+        let sorts = List::of(sorts);
+        Ok((Shape { name, sorts }, next))
     }
 }
 

@@ -2,7 +2,7 @@
 ghost use Rattle.std.specs.Prelude.{◌≡◌, drop, map};
 ghost use Rattle.cc_defs.specs.declared.token.Mark.TheVariants as marks;
 ghost use Rattle.cc_defs.specs.Tokens.{AreTokens};
-ghost use Rattle.cc_defs.specs.Trees.{PlainQueryItem, PlainTree, plain_tree, plain_query_item};
+ghost use Rattle.cc_defs.specs.Trees.{PlainQueryItem, plain_tree, plain_query_item};
 ghost use Rattle.cc_syntax.specs.Formulas.{formula_at};
 ghost use Rattle.cc_syntax.specs.Queries.{condition_at, step_at, stepped_at, range_at, last_at, labelled_at, query_item_at};
 ghost use Rattle.cc_syntax.specs.Readers.{listed_at};
@@ -11,28 +11,14 @@ ghost use Rattle.cc_text.specs.Views.{token_views};
 
 use crate::formulas::formula;
 use crate::items::{Item, listed};
-use crate::reading::unboxed;
+use crate::reading::put_boxed;
 use crate::stop::Stop;
 use crate::tokens::{label, numeral, sign, word};
 use cc_defs::{At, List, Mark, QueryItem, Token, Tree};
 use std::alloc::Global;
 
-/// A formula.
-impl<'s> Item<'s> for Tree<'s> {
-    ghost Plain = { PlainTree };
-
-    ghost plain = { plain_tree };
-
-    ghost item_at = { formula_at };
-
-    ghost IsReadOf = { λ tokens. AreTokens (token_views tokens) };
-
-    fn read(alloc: Global, tokens: &[Token<'s>], at: usize) -> Result<(Self, usize), Stop> {
-        unboxed(formula(alloc, tokens, at))
-    }
-}
-
 /// Formulas with commas between them.
+#[tactic(auto, using(crate::proofs::Lists::listed_steps))]
 fn formulas<'s>(
     alloc: Global,
     tokens: &[Token<'s>],
@@ -42,7 +28,17 @@ fn formulas<'s>(
     ensures { Reads (λ formulas. map plain_tree formulas.items) tokens.now result
         (listed_at formula_at marks.Comma (drop at (seen tokens.now))) }
 {
-    listed(alloc, tokens, at, Mark::Comma)
+    let mut formulas = Vec::new(alloc);
+    let mut next = at;
+    for _ in at..tokens.len() {
+        let (item, after) = formula(alloc, tokens, next)?;
+        put_boxed(&mut formulas, item)?;
+        match sign(tokens, after, Mark::Comma) {
+            Ok(behind) => next = behind,
+            Err(_) => return Ok((formulas, after)),
+        }
+    }
+    Err(Stop::NoTree)
 }
 
 /// What holds at the step, behind it.

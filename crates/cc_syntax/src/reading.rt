@@ -65,16 +65,6 @@ pub(crate) fn made_boxed<T: Drop, U: Drop, F: FnOnce(T) -> U>(
     }
 }
 
-/// What was read, out of its box.
-pub(crate) fn unboxed<T: Drop>(read: Result<(Box<T>, usize), Stop>) -> Result<(T, usize), Stop>
-    ensures { MatchResult read (λ r. result ≡ Ok (r.0.value, r.1)) (λ stop. result ≡ Err stop) }
-{
-    match read {
-        Ok((place, next)) => Ok((Box::into_inner(place), next)),
-        Err(stop) => Err(stop),
-    }
-}
-
 /// What is kept, beside what was read behind it. Both are of any type, so that their drops are calls.
 pub(crate) fn beside<K: Drop, T: Drop>(
     kept: K,
@@ -116,4 +106,11 @@ pub(crate) fn put_last<X: Drop>(list: &mut Vec<X>, item: X) -> Result<(), OutOfM
 {
     list.push(item)?;
     Ok(())
+}
+
+/// The same of an item in a box.
+pub(crate) fn put_boxed<X: Drop>(list: &mut Vec<X>, item: Box<X>) -> Result<(), OutOfMemory>
+    ensures { OnOk result (list.new.items ≡ list.old.items ++ item.value ∷ []) }
+{
+    put_last(list, Box::into_inner(item))
 }
