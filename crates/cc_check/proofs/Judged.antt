@@ -24,7 +24,7 @@ use Rattle.cc_check.specs.declared.judge.Pass.{Pass}
 use Rattle.cc_check.specs.declared.judge.Pass.TheVariants as passes
 use Rattle.cc_check.specs.declared.line.Kind.{Kind}
 use Rattle.cc_check.specs.declared.line.Kind.TheVariants as kinds
-use Rattle.cc_check.specs.Clauses.{IsClauseOver, AreClausesOver, AreSound, IsEndedInBytes, IsFoundInBytes, IsPassed, IsPassedAt, IsRightDerived, IsWrongDerived, ReachesNothing, reading_as}
+use Rattle.cc_check.specs.Clauses.{IsClauseOver, AreClausesOver, AreSound, IsEndedInBytes, IsFoundInBytes, IsLeft, IsPassed, IsPassedAt, IsRightDerived, IsWrongDerived, ReachesNothing, reading_as}
 use Rattle.cc_check.specs.declared.line.LineParts.{LineParts}
 use Rattle.cc_check.specs.Readers.{links, literals_of, numbers_of}
 use Rattle.cc_check.specs.Reading.{IsFirstRead, IsReadIn}
@@ -206,6 +206,15 @@ module _ (axioms : Axioms) (own : List (List Literal)) (clause : List Literal) (
     wrong_clause reached h other = inr (none, (over.0, over.1, named, (reached, h, other)))
 
 -- ---- the lines of a section, one after another
+
+-- a line that is not right, or ends the section, leaves all as it was
+pub left_alone : (axioms : Axioms) (own : List (List Literal)) (blocks : ℕ) (refuted : Bool) → AreSound axioms own refuted → IsLeft axioms own blocks own blocks refuted
+left_alone axioms own blocks refuted sound = record { sound = sound; counted = omega arith; grown = omega arith }
+
+-- a clause was put behind the others
+pub left_more : (axioms : Axioms) (own : List (List Literal)) (blocks : ℕ) (after : List (List Literal)) (count : ℕ) (refuted : Bool) → AreSound axioms after refuted →
+    count ≤ blocks + 1 → length after ≡ length own + 1 → IsLeft axioms own blocks after count refuted
+left_more axioms own blocks after count refuted sound counted grown = record { sound = sound; counted = counted; grown = omega arith }
 
 pub record FoundSoFar (reading : Reading) (axioms : Axioms) (first : ℕ) (bytes : List ℕ) (own : List (List Literal)) (blocks line : ℕ) (rest : List ℕ) : Type 0 where
   pub so_far : (texts : List (List ℕ)) → AreTexts reading.version bytes texts → (more : List (List ℕ)) × AreTexts reading.version rest more

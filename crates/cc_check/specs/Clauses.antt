@@ -1,5 +1,5 @@
 -- The clauses of a section: those of its form, and behind them its own.
-use Rattle.std.specs.Prelude.{◌≡◌, ℕ, ◌+◌, ◌≤◌, ◌⊎◌, Bool, List, [], ◌++◌, ◌∷◌, Contains}
+use Rattle.std.specs.Prelude.{◌≡◌, ℕ, ◌+◌, ◌≤◌, ◌⊎◌, Bool, List, [], ◌++◌, ◌∷◌, length, Contains}
 use Rattle.std.specs.Bool.{MatchBool}
 use Rattle.std.specs.List.{AllByRecursion}
 use Rattle.cc_defs.specs.declared.log.Cause.{Cause}
@@ -36,6 +36,12 @@ ReachesNothing clauses chain = (reached : List Literal) → Reaches clauses chai
 pub record AreSound (axioms : Axioms) (own : List (List Literal)) (refuted : Bool) : Type 0 where
   pub clauses : AreClausesOver axioms.variables own
   pub empty : MatchBool refuted (Contains (axioms.clauses ++ own) []) (HasNoEmpty (axioms.clauses ++ own))
+
+-- What a line leaves of a section's own clauses and of its blocks: they are sound still, and there is one more of each at most.
+pub record IsLeft (axioms : Axioms) (own : List (List Literal)) (blocks : ℕ) (after : List (List Literal)) (count : ℕ) (refuted : Bool) : Type 0 where
+  pub sound : AreSound axioms after refuted
+  pub counted : count ≤ blocks + 1
+  pub grown : length after ≤ length own + 1
 
 -- why a derived line is not right behind these clauses
 abbrev pub IsWrongDerived : Axioms → List (List Literal) → List Literal → List ℕ → Cause → Type 0

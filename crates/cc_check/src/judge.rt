@@ -7,7 +7,7 @@ ghost use Rattle.cc_defs.specs.Clauses.{IsClause, IsOver};
 ghost use Rattle.cc_defs.specs.Limits.{most_log_bytes};
 ghost use Rattle.cc_defs.specs.LogBytes.{IsSpelled};
 ghost use Rattle.cc_defs.specs.Sections.{EndsRightly, Finding as PlainFinding, HasNoForm, row_denial};
-ghost use Rattle.cc_check.specs.Clauses.{AreSound, HasLineBehind, IsClauseOver, IsEndedInBytes, IsFoundInBytes, IsPassed, IsPassedAt, IsVerdictOf, IsWrongDerived, IsRightDerived, plain_finding, reading_as};
+ghost use Rattle.cc_check.specs.Clauses.{AreSound, HasLineBehind, IsClauseOver, IsEndedInBytes, IsFoundInBytes, IsLeft, IsPassed, IsPassedAt, IsVerdictOf, IsWrongDerived, IsRightDerived, plain_finding, reading_as};
 ghost use Rattle.cc_check.specs.Readers.{chain_of, literals_of, numbers_of};
 ghost use Rattle.cc_check.specs.Reading.{IsLineRead};
 ghost use Rattle.cc_check.specs.SectionTexts.{IsFoundOf};
@@ -181,9 +181,8 @@ impl Checker {
             (lines.Derived (literals_of line.now.literals) (numbers_of line.now.numbers)) →
             IsPassed (reading_as version may)
             form.now self.old.own self.old.blocks text pass self.new.own self.new.blocks) }
-        ensures sound { OnOk result (AreSound form.now self.new.own self.new.refuted) }
-        ensures counted { OnOk result (self.new.blocks ≤ self.old.blocks + 1) }
-        ensures grown { OnOk result (length self.new.own ≤ length self.old.own + 1) }
+        ensures left { OnOk result (IsLeft form.now self.old.own
+            self.old.blocks self.new.own self.new.blocks self.new.refuted) }
     {
         let own = own_number(form, &self.own);
         let chain = ChainReader::of(version, own, line.numbers);
@@ -210,9 +209,8 @@ impl Checker {
         ensures passed { IfOk result (λ pass. (version : _) (text : List ℕ) → IsSpelled version text
             (lines.Block (numbers_of row.now)) → IsPassed (reading_as version may)
             form.now self.old.own self.old.blocks text pass self.new.own self.new.blocks) }
-        ensures sound { OnOk result (AreSound form.now self.new.own self.new.refuted) }
-        ensures counted { OnOk result (self.new.blocks ≤ self.old.blocks + 1) }
-        ensures grown { OnOk result (length self.new.own ≤ length self.old.own + 1) }
+        ensures left { OnOk result (IsLeft form.now self.old.own
+            self.old.blocks self.new.own self.new.blocks self.new.refuted) }
     {
         if !may {
             return Ok(Pass::Wrong(Cause::Section));
@@ -258,9 +256,8 @@ impl Checker {
         ensures passed { IfOk result (λ pass. (text : List ℕ) → IsLineRead version text line.entry →
             IsPassed (reading_as version may)
             form.now self.old.own self.old.blocks text pass self.new.own self.new.blocks) }
-        ensures sound { OnOk result (AreSound form.now self.new.own self.new.refuted) }
-        ensures counted { OnOk result (self.new.blocks ≤ self.old.blocks + 1) }
-        ensures grown { OnOk result (length self.new.own ≤ length self.old.own + 1) }
+        ensures left { OnOk result (IsLeft form.now self.old.own
+            self.old.blocks self.new.own self.new.blocks self.new.refuted) }
     {
         let Some(line) = line else {
             return Ok(Pass::Wrong(Cause::Form));
@@ -288,9 +285,8 @@ impl Checker {
         ensures passed { IfOk result (λ passed.
             IsPassedAt (reading_as version may) form.now self.old.own
             self.old.blocks bytes.now passed.0 passed.1.now self.new.own self.new.blocks) }
-        ensures sound { OnOk result (AreSound form.now self.new.own self.new.refuted) }
-        ensures counted { OnOk result (self.new.blocks ≤ self.old.blocks + 1) }
-        ensures grown { OnOk result (length self.new.own ≤ length self.old.own + 1) }
+        ensures left { OnOk result (IsLeft form.now self.old.own
+            self.old.blocks self.new.own self.new.blocks self.new.refuted) }
     {
         let (line, rest) = read_text(version, bytes);
         let pass = self.line(form, version, may, line)?;

@@ -6,10 +6,10 @@ use Rattle.cc_check.proofs.judge.Checker.find.Goals as goal
 
 pub loop-rest-preserved : goal.loop-rest-preserved
 loop-rest-preserved c = record {
-  sound = c.in_ok-pass.ensures.sound;
+  sound = c.in_ok-pass.ensures.left.sound;
   found = found_more _ _ _ _ c.loop-rest.self.own c.loop-rest.self.blocks c.loop-rest.line c.loop-rest.rest.now c.loop-rest.invariant.found
       c.in_ok-pass.pass c.in_ok-pass.behind.now c.pass.new.self.own c.pass.new.self.blocks c.in_ok-pass.ensures.passed c.in-Goes.is
-      c.in_ok-pass.ensures.counted c.in_ok-pass.ensures.grown;
+      c.in_ok-pass.ensures.left.counted c.in_ok-pass.ensures.left.grown;
 }
 
 pub returns-in-Ends-clause-found : goal.returns-in-Ends-clause-found

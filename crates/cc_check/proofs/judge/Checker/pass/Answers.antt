@@ -6,3 +6,6 @@ returns-clause-passed c = record {
   first = c.read_text.ensures.first;
   passed = c.in_ok-pass.ensures.passed c.read_text.ensures.text c.read_text.ensures.read;
 }
+
+pub returns-clause-left : goal.returns-clause-left
+returns-clause-left c = c.in_ok-pass.ensures.left
