@@ -6,6 +6,8 @@ use Rattle.std.proofs.lemmas.Bool.{cases_lt}
 use Rattle.std.proofs.lemmas.List.{at_drop_all, at_drop_more, map-append, map-id}
 use Rattle.std.proofs.lemmas.List.Sums.{sum_by-append, sum_by-cons}
 use Rattle.std.proofs.Math.Nat.{mul_assoc}
+use Rattle.std.specs.Global.{Box}
+use Rattle.cc_defs.specs.declared.formula.Formula as kept
 use Rattle.cc_defs.specs.declared.law.Range.{Range}
 use Rattle.cc_defs.specs.Environments.{Under, Together, choices, has_instance, instances_from, instances_of, pairs_of, range_values}
 use Rattle.cc_defs.specs.Judged.{choices_of, constants_of, is_sum, lists_of, product_of, size_of, those_meant}
@@ -20,6 +22,8 @@ use Rattle.cc_ground.specs.Bindings.{BindingsView, environment_of, no_bindings}
 use Rattle.cc_ground.specs.Choices.{base_choices, bracket_choices, choices_behind, choices_under, choices_with, conditions_choices, has_any, has_lists, has_lists_part, law_choices, laws_choices}
 use Rattle.cc_ground.specs.Counting.{choices_of_all, choices_of_query, claim_choices, condition_choices, instance_choices, part_choices}
 use Rattle.cc_ground.specs.Pieces.{gathered}
+use Rattle.cc_ground.proofs.Meant.{all_is, some_is, two_is}
+use Rattle.cc_ground.proofs.Testing.{IsBracket, IsOfTwo}
 use Rattle.cc_ground.proofs.Totals.{gathered_firsts}
 
 -- ---- counts that stop
@@ -77,6 +81,22 @@ bracket_is u env variable formula [] = refl
 bracket_is u env variable formula (object ∷ objects) =
     sum_by-cons (λ (o : ℕ). choices_of u (bind variable o env) formula) object objects
     ∙ ap (λ (k : ℕ). choices_of u (bind variable object env) formula + k) (bracket_is u env variable formula objects)
+
+-- ---- formulas of parts
+
+pub choices_of_two : (u : Universe) (env : Environment) (whole f g : kept.Formula) (l r : Box kept.Formula) → IsOfTwo whole l r → f ≡ l.value → g ≡ r.value →
+    choices_of u env (plain_formula whole) ≡ choices_of u env (plain_formula f) + choices_of u env (plain_formula g)
+choices_of_two u env whole f g l r (inl is) first second = ap (choices_of u env) (two_is kept.Both resolved.Both whole f g l r refl is first second)
+choices_of_two u env whole f g l r (inr (inl is)) first second = ap (choices_of u env) (two_is kept.Either resolved.Either whole f g l r refl is first second)
+choices_of_two u env whole f g l r (inr (inr (inl is))) first second = ap (choices_of u env) (two_is kept.Implies resolved.Implies whole f g l r refl is first second)
+choices_of_two u env whole f g l r (inr (inr (inr is))) first second = ap (choices_of u env) (two_is kept.Same resolved.Same whole f g l r refl is first second)
+
+pub choices_of_bracket : (u : Universe) (env : Environment) (whole inner : kept.Formula) (variable sort : ℕ) (box : Box kept.Formula) → IsBracket whole variable sort box → inner ≡ box.value →
+    choices_of u env (plain_formula whole) ≡ bracket_choices u env variable (plain_formula inner) (objects_of u sort)
+choices_of_bracket u env whole inner variable sort box (inl is) same =
+    ap (choices_of u env) (all_is whole inner variable sort box is same) ∙ bracket_is u env variable (plain_formula inner) (objects_of u sort)
+choices_of_bracket u env whole inner variable sort box (inr is) same =
+    ap (choices_of u env) (some_is whole inner variable sort box is same) ∙ bracket_is u env variable (plain_formula inner) (objects_of u sort)
 
 -- ---- where there are none
 

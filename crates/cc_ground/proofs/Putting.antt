@@ -1,10 +1,12 @@
 -- Nodes that are put behind others, and the room that is left for them.
-use Rattle.std.proofs.Common.{◌≡◌, ◌∙◌, ℕ, ◌+◌, ◌<◌, ◌≤◌, List, [], ◌∷◌, ◌++◌, length, drop, map, get_or, position, nat_eq, Bool, true, Option, Some, None, Result, Ok, Err, refl, sym, ap, subst, append_assoc, append-nil, length-append, arith}
+use Rattle.std.proofs.Common.{◌≡◌, ◌∙◌, ℕ, ◌+◌, ◌<◌, ◌≤◌, List, [], ◌∷◌, ◌++◌, length, drop, map, get_or, position, nat_eq, Bool, true, Option, Some, None, Result, Ok, Err, ◌⊎◌, inl, inr, refl, sym, ap, subst, append_assoc, append-nil, length-append, arith}
 use Rattle.std.proofs.lemmas.List.{at_drop_all, at_drop_more}
 use Rattle.std.specs.Result.{IfErr, IfOk, OnOk, IsErr, IsErrAnd}
 use Rattle.std.specs.Prelude.{if◌then◌else◌}
 use Rattle.cc_ground.specs.declared.judged.Equation.{Equation}
-use Rattle.cc_ground.specs.Pieces.{atom_nodes, count_behind, holds_at, list_nodes, nodes_behind, nodes_over}
+use Rattle.cc_ground.specs.declared.pieces.Sign.{Sign}
+use Rattle.cc_ground.specs.Outermost.{joining_node, sign_of}
+use Rattle.cc_ground.specs.Pieces.{atom_nodes, count_behind, formula_of, holds_at, list_nodes, nodes_behind, nodes_over}
 use Rattle.std.specs.Global.{Box}
 use Rattle.cc_defs.specs.declared.formula.Formula as kept
 use Rattle.cc_defs.specs.declared.node.Node.TheVariants as nodes
@@ -12,7 +14,9 @@ use Rattle.cc_defs.specs.Resolved as resolved
 use Rattle.cc_defs.specs.Terms.{Ground, Operands, all_of, nothing, and_then, operand_count, operands_behind, postfix, postfixes}
 use Rattle.cc_defs.specs.Terms as terms
 use Rattle.cc_defs.specs.declared.node.Node.{Node}
-use Rattle.cc_defs.specs.Resolved.{Term, Formula, plain_formula}
+use Rattle.cc_defs.specs.Judged.{constants_of, judged}
+use Rattle.cc_defs.specs.declared.formula.Term.{Term as TermTree}
+use Rattle.cc_defs.specs.Resolved.{Term, Formula, plain_formula, plain_term}
 use Rattle.cc_ground.specs.declared.maker.Halt.{Halt}
 use Rattle.cc_ground.specs.declared.maker.Halt.TheVariants as halts
 use Rattle.cc_ground.specs.declared.maker.Maker.{Maker}
@@ -21,6 +25,8 @@ use Rattle.cc_defs.specs.Nodes.{Side, both_have, common_values, equation, side, 
 use Rattle.cc_defs.specs.Universe.{Universe, objects_of}
 use Rattle.cc_defs.specs.Satisfaction.{Environment, bind}
 use Rattle.cc_ground.specs.Bindings.{BindingsView, environment_of, with_bound}
+use Rattle.cc_ground.proofs.Meant.{all_is, some_is}
+use Rattle.cc_ground.proofs.Testing.{IsBracket}
 use Rattle.cc_ground.specs.Views.{HasPut, IsLike, LacksRoom, universe_in, universe_of}
 
 -- ---- one behind another
@@ -160,6 +166,35 @@ implies_nodes old whole a b l r is e f = record {
 pub not_nodes : (old : Maker) (whole a : kept.Formula) (l : Box kept.Formula) → whole ≡ kept.Not l → a ≡ l.value → nodes_in old (plain_formula a) ++ nodes.Not ∷ [] ≡ nodes_in old (plain_formula whole)
 not_nodes old whole a l is e = sym (ap (nodes_in old) (ap plain_formula is ∙ ap (λ x. resolved.Not (plain_formula x)) (sym e)))
 
+-- however two parts are joined, none of which is denied
+abbrev pub IsJoined : kept.Formula → Box kept.Formula → Box kept.Formula → Type 0
+IsJoined whole l r = (whole ≡ kept.Both l r) ⊎ ((whole ≡ kept.Either l r) ⊎ (whole ≡ kept.Same l r))
+
+module _ (old : Maker) (whole a b : kept.Formula) (l r : Box kept.Formula) (node : Node) where
+  abbrev Parts : Node → Type 0
+  Parts joining = OfTwo old (nodes_in old (plain_formula a)) (plain_formula b) joining (nodes_in old (plain_formula whole))
+
+  with_node : (w : kept.Formula) → node ≡ joining_node (plain_formula whole) 2 → whole ≡ w → Parts (joining_node (plain_formula w) 2) → Parts node
+  with_node w n is parts = subst Parts (sym (n ∙ ap (λ (f : kept.Formula). joining_node (plain_formula f) 2) is)) parts
+
+  pub joined_nodes : IsJoined whole l r → node ≡ joining_node (plain_formula whole) 2 → a ≡ l.value → b ≡ r.value → Parts node
+  joined_nodes (inl is) n e f = with_node (kept.Both l r) n is (both_nodes old whole a b l r is e f)
+  joined_nodes (inr (inl is)) n e f = with_node (kept.Either l r) n is (either_nodes old whole a b l r is e f)
+  joined_nodes (inr (inr is)) n e f = with_node (kept.Same l r) n is (same_nodes old whole a b l r is e f)
+
+-- ---- comparisons
+
+abbrev pub IsComparison : kept.Formula → TermTree → TermTree → Type 0
+IsComparison whole l r = (whole ≡ kept.Less l r) ⊎ (whole ≡ kept.AtMost l r)
+
+module _ (old : Maker) (whole : kept.Formula) (sign : Sign) (l r : TermTree) where
+  abbrev judged_nodes : Sign → List Node
+  judged_nodes s = postfix (judged (universe_in old) (environment_of old.env) (formula_of s (plain_term l) (plain_term r)) (constants_of (plain_term l) ++ constants_of (plain_term r)))
+
+  pub comparison_nodes : IsComparison whole l r → sign ≡ sign_of (plain_formula whole) → judged_nodes sign ≡ nodes_in old (plain_formula whole)
+  comparison_nodes (inl is) same = ap judged_nodes (same ∙ ap (λ (f : kept.Formula). sign_of (plain_formula f)) is) ∙ sym (ap (λ (f : kept.Formula). nodes_in old (plain_formula f)) is)
+  comparison_nodes (inr is) same = ap judged_nodes (same ∙ ap (λ (f : kept.Formula). sign_of (plain_formula f)) is) ∙ sym (ap (λ (f : kept.Formula). nodes_in old (plain_formula f)) is)
+
 -- ---- instances
 
 -- those of these objects, behind others
@@ -244,11 +279,22 @@ count_is maker formula variable sort e = omega (arith, instances_counted (instan
 
 -- ---- a bracket
 
-pub bracket_puts : (node : ℕ → Node) (ops : Operands) {whole : List Node} {count : ℕ} {old mid : Maker} (new : Maker) (result : Result (Unit {0}) Halt) →
-    whole ≡ postfixes ops ++ node (operand_count ops) ∷ [] → count ≡ operand_count ops →
-    HasPut (postfixes ops) old mid → OnOk result (HasPut (node count ∷ []) mid new) → OnOk result (HasPut whole old new)
-bracket_puts node ops new (Ok done) e n put last = put_as (ap (λ (k : ℕ). postfixes ops ++ node k ∷ []) n ∙ sym e) (put_both put last)
-bracket_puts node ops new (Err halt) e n put last = tt
+pub bracket_puts : (node : ℕ → Node) (ops : Operands) {whole : List Node} {count : ℕ} {last : Node} {old mid : Maker} (new : Maker) (result : Result (Unit {0}) Halt) →
+    whole ≡ postfixes ops ++ node (operand_count ops) ∷ [] → last ≡ node count → count ≡ operand_count ops →
+    HasPut (postfixes ops) old mid → OnOk result (HasPut (last ∷ []) mid new) → OnOk result (HasPut whole old new)
+bracket_puts node ops new (Ok done) e is n put behind = put_as (ap (λ (k : Node). postfixes ops ++ k ∷ []) (is ∙ ap node n) ∙ sym e) (put_both put behind)
+bracket_puts node ops new (Err halt) e is n put behind = tt
+
+pub bracket_nodes : (old : Maker) (whole inner : kept.Formula) (variable sort : ℕ) (box : Box kept.Formula) → IsBracket whole variable sort box → inner ≡ box.value →
+    nodes_in old (plain_formula whole) ≡ postfixes (instances_in old (plain_formula inner) variable sort) ++ joining_node (plain_formula whole) (operand_count (instances_in old (plain_formula inner) variable sort)) ∷ []
+bracket_nodes old whole inner variable sort box (inl is) same =
+    let it = all_is whole inner variable sort box is same in
+    let ops = instances_in old (plain_formula inner) variable sort in
+    ap (nodes_in old) it ∙ ap (λ (f : Formula). postfixes ops ++ joining_node f (operand_count ops) ∷ []) (sym it)
+bracket_nodes old whole inner variable sort box (inr is) same =
+    let it = some_is whole inner variable sort box is same in
+    let ops = instances_in old (plain_formula inner) variable sort in
+    ap (nodes_in old) it ∙ ap (λ (f : Formula). postfixes ops ++ joining_node f (operand_count ops) ∷ []) (sym it)
 
 bracket_length : (ops : Operands) (node : Node) {whole : List Node} → whole ≡ postfixes ops ++ node ∷ [] → length whole ≡ length (postfixes ops) + 1
 bracket_length ops node e = ap length e ∙ length-append (postfixes ops) (node ∷ [])
@@ -299,14 +345,13 @@ common_rest {constant} {values} {other} {others} {i} found so within at =
     ∙ sym (commons_next so.made constant i (get_or values i 0) (drop (i + 1) values) other others)
     ∙ sym (at_drop_more (λ (l : List ℕ). commons so.made constant i l other others) values i 0 within) ∙ so.rest
 
-pub commons_more : {constant : ℕ} {values : List ℕ} {other : ℕ} {others : List ℕ} {i count : ℕ} {old new next : Maker} (index place found : ℕ) →
+pub commons_more : {constant : ℕ} {values : List ℕ} {other : ℕ} {others : List ℕ} {i count : ℕ} {old new next : Maker} (found : ℕ) →
     CommonsSoFar constant values other others i count old new → i < length values → Some found ≡ position (nat_eq (get_or values i 0)) others →
-    index ≡ i → place ≡ found →
-    HasPut (postfix (all_of (terms.Atom constant index ∷ terms.Atom other place ∷ []))) new next →
+    HasPut (postfix (all_of (terms.Atom constant i ∷ terms.Atom other found ∷ []))) new next →
     CommonsSoFar constant values other others (i + 1) (count + 1) old next
-commons_more {constant} {values} {other} {others} {i} {count} {old} {new} {next} index place found so within at e f put = record {
+commons_more {constant} {values} {other} {others} {i} {count} {old} {new} {next} found so within at put = record {
   made = and_then so.made (all_of (terms.Atom constant i ∷ terms.Atom other found ∷ []));
-  put = put_both so.put (put_as (ap (λ (k : ℕ). postfix (all_of (terms.Atom constant k ∷ terms.Atom other place ∷ []))) e ∙ ap (λ (k : ℕ). postfix (all_of (terms.Atom constant i ∷ terms.Atom other k ∷ []))) f) put);
+  put = put_both so.put put;
   counted = ap (λ (n : ℕ). n + 1) so.counted;
   few = omega (arith, so.few);
   rest = common_rest (Some found) so within at;

@@ -1,10 +1,9 @@
 -- The conditions of a query, one behind another.
-use Rattle.std.proofs.Common.{◌≡◌, ◌∙◌, ℕ, ◌+◌, ◌<◌, ◌≤◌, List, [], ◌∷◌, ◌++◌, length, drop, map, get_or, min, Option, Some, None, unwrap_or, append_assoc, append-nil, refl, sym, ap, subst, arith, rules, tests}
+use Rattle.std.proofs.Common.{◌≡◌, ◌∙◌, ℕ, ◌+◌, ◌<◌, ◌≤◌, List, [], ◌∷◌, ◌++◌, length, drop, map, get_or, min, Option, Some, None, Result, Ok, Err, IfErr, OnOk, unwrap_or, append_assoc, append-nil, refl, sym, ap, subst, arith, rules, tests}
 use Rattle.std.proofs.lemmas.List.{at_drop_all, at_drop_more}
 use Rattle.cc_arena.specs.declared.ground_laws.GroundCondition.{GroundCondition}
 use Rattle.cc_defs.specs.declared.law.Condition.{Condition as ConditionTree}
 use Rattle.cc_defs.specs.declared.refusal.Fault.{Fault}
-use Rattle.cc_defs.specs.declared.refusal.Fault.TheVariants as faults
 use Rattle.cc_defs.specs.declared.refusal.LimitAt.TheVariants as limits
 use Rattle.cc_defs.specs.declared.refusal.Refusal.{Refusal}
 use Rattle.std.specs.Option.{option_or}
@@ -21,8 +20,8 @@ use Rattle.cc_defs.specs.GroundLaws.{PlainGroundCondition, ground_condition, gro
 use Rattle.cc_arena.specs.GroundViews.{plain_ground_condition}
 use Rattle.cc_defs.specs.Universe.{Universe, universe}
 use Rattle.cc_defs.specs.Refusals.{IsRefusedBy, past}
-use Rattle.cc_ground.specs.Views.{IsLike, LacksRoom, universe_in}
-use Rattle.cc_ground.proofs.FromDeclarations.{maker_universe, universe_is}
+use Rattle.cc_ground.specs.Views.{IsLike, LacksRoom, fault_by, universe_in, universe_of}
+use Rattle.cc_ground.proofs.FromDeclarations.{universe_is}
 use Rattle.cc_ground.proofs.Putting.{lacks_more, like_both, same_universe}
 
 -- what is made, with these that are left, is the whole
@@ -82,23 +81,27 @@ asked_room conditions i {there} {old} {now} so past = omega (arith, so.room, ap 
 
 -- ---- a query
 
-pub asked_is : (maker : Maker) (table : TableView) (signature : Signature) (declarations : List Declaration) (found : Option (ℕ × ℕ)) (given range : ℕ × ℕ) (query : Query) →
-    maker.table.now ≡ table → maker.sig.now ≡ signature → IsTable table declarations → IsSignatureOf declarations signature → given ≡ unwrap_or found (0, 0) → found ≡ Some range →
-    ground_query (universe_in maker) given query ≡ ground_query (universe declarations) range query
-asked_is maker table signature declarations found given range query t s is of g f =
-    ap (λ (u : Universe). ground_query u given query) (maker_universe maker table signature t s ∙ universe_is table declarations signature is of)
+pub asked_is : (table : TableView) (signature : Signature) (declarations : List Declaration) (found : Option (ℕ × ℕ)) (given range : ℕ × ℕ) (query : Query) →
+    IsTable table declarations → IsSignatureOf declarations signature → given ≡ unwrap_or found (0, 0) → found ≡ Some range →
+    ground_query (universe_of table signature) given query ≡ ground_query (universe declarations) range query
+asked_is table signature declarations found given range query is of g f =
+    ap (λ (u : Universe). ground_query u given query) (universe_is table declarations signature is of)
     ∙ ap (λ (w : ℕ × ℕ). ground_query (universe declarations) w query) (g ∙ ap (λ (o : Option (ℕ × ℕ)). unwrap_or o (0, 0)) f)
 
 pub few_nodes : (count room : ℕ) → count ≤ room → room ≡ limit_number limits.GroundNodes → node_refusal count ≡ None
 few_nodes count room few is = search (rules, tests)
 
-many_of : (count room : ℕ) (fault : Fault) → room < count → room ≡ limit_number limits.GroundNodes → fault ≡ faults.Refused (past limits.GroundNodes) →
-    IsRefusedBy (node_refusal count) fault
-many_of count room fault many is refused = search (rules, tests)
+many_of : (count room : ℕ) → room < count → room ≡ limit_number limits.GroundNodes → node_refusal count ≡ Some (past limits.GroundNodes)
+many_of count room many is = search (rules, tests)
 
-pub many_nodes : (count room : ℕ) (halt : Halt) (fault : Fault) → LacksRoom count room halt → halt ≡ halts.Full → room ≡ limit_number limits.GroundNodes →
-    fault ≡ faults.Refused (past limits.GroundNodes) → IsRefusedBy (node_refusal count) fault
-many_nodes count room halt fault lacks full is refused = many_of count room fault (subst (LacksRoom count room) full lacks) is refused
+pub many_nodes : {T : Type 0} (count room : ℕ) (result : Result T Halt) → IfErr result (LacksRoom count room) → room ≡ limit_number limits.GroundNodes → IfErr result (λ halt. IsRefusedBy (node_refusal count) (fault_by halt))
+many_nodes count room (Ok made) lacks is = tt
+many_nodes count room (Err halts.Full) lacks is = many_of count room lacks is
+many_nodes count room (Err halts.OutOfMemory) lacks is = tt
+
+pub on_ok : {T E P Q : Type 0} (result : Result T E) → (P → Q) → OnOk result P → OnOk result Q
+on_ok (Ok made) so p = so p
+on_ok (Err halt) so p = tt
 
 -- ---- lists of values
 

@@ -1,15 +1,16 @@
 -- The instances of a law, value by value of its first range, and the laws of a list of base laws.
-use Rattle.std.proofs.Common.{◌≡◌, ◌∙◌, ℕ, ◌+◌, ◌<◌, ◌≤◌, Bool, true, false, ◌&&◌, cond, List, [], ◌∷◌, ◌++◌, length, drop, map, min, get_or, Option, Some, None, is_some, IfOk, Result, Ok, Err, slice_get, filter, refl, sym, ap, subst, append_assoc, append-nil, arith}
+use Rattle.std.proofs.Common.{◌≡◌, ◌∙◌, ℕ, ◌+◌, ◌<◌, ◌≤◌, Bool, true, false, ◌&&◌, cond, List, [], ◌∷◌, ◌++◌, length, drop, map, min, get_or, Option, Some, None, is_some, IfErr, IfOk, Result, Ok, Err, slice_get, filter, refl, sym, ap, subst, append_assoc, append-nil, arith}
 use Rattle.std.specs.List.{flat_map}
 use Rattle.std.specs.Option.{option_or}
 use Rattle.std.specs.Prelude.{if◌then◌else◌}
-use Rattle.std.specs.Result.{OnOk}
-use Rattle.std.proofs.lemmas.Bool.{le-ltb, lt-ltb}
+use Rattle.std.specs.Result.{IsErrAnd, IsOk, OnOk}
+use Rattle.std.proofs.lemmas.Bool.{false≢true, le-ltb}
 use Rattle.std.proofs.lemmas.List.{at_drop_all, at_drop_more, map-append, map-id}
 use Rattle.std.proofs.lemmas.Grind.{flat_map-append}
 use Rattle.std.proofs.lemmas.List.Elements.{filter-append}
 use Rattle.cc_arena.specs.declared.ground_laws.GroundLaw.{GroundLaw}
-use Rattle.cc_arena.specs.GroundViews.{plain_ground_law}
+use Rattle.cc_arena.specs.declared.ground_laws.Laws.{Laws}
+use Rattle.cc_arena.specs.GroundViews.{plain_ground_law, plain_ground_laws}
 use Rattle.cc_defs.specs.declared.law.BaseLaw.{BaseLaw as BaseLawTree}
 use Rattle.cc_defs.specs.declared.law.BaseLaw.TheVariants as base_laws
 use Rattle.cc_defs.specs.declared.law.Law.{Law as LawTree}
@@ -19,21 +20,22 @@ use Rattle.cc_defs.specs.declared.refusal.LimitAt.TheVariants as limits
 use Rattle.cc_defs.specs.Environments.{Under, Together, choices, has_instance, instances_from, instances_of, passes, pairs_of, range_values}
 use Rattle.cc_defs.specs.GroundLaws.{PlainGroundLaw, ground_head, ground_laws, law_of_instance, law_with, pair_law}
 use Rattle.cc_defs.specs.Judged.{choices_of}
-use Rattle.cc_defs.specs.Refusals.{past}
+use Rattle.cc_defs.specs.Limits.{limit_number}
+use Rattle.cc_defs.specs.Refusals.{IsRefusedBy, past}
 use Rattle.cc_defs.specs.Resolved.{BaseLaw, Law, plain_base_law, plain_law}
 use Rattle.cc_defs.specs.Satisfaction.{Environment, giving, head_is_there}
 use Rattle.cc_defs.specs.Universe.{Universe, boolean_actions}
 use Rattle.cc_ground.specs.declared.maker.Halt.{Halt}
-use Rattle.cc_ground.specs.declared.maker.Halt.TheVariants as halts
 use Rattle.cc_ground.specs.declared.maker.Maker.{Maker}
 use Rattle.cc_ground.specs.Bindings.{BindingsView, bound_over, environment_of, with_value}
 use Rattle.cc_ground.specs.Choices.{choices_under}
 use Rattle.cc_ground.specs.Counting.{choice_refusal, choices_of_all, instances_of_all, laws_refusal, node_refusal, nodes_in, part_choices}
-use Rattle.cc_ground.specs.Views.{HasMade, IsLike, LacksRoom, laws_behind, laws_from, laws_of, laws_under, passes_in, universe_in}
+use Rattle.cc_ground.specs.Views.{HasMade, IsLike, LacksRoom, fault_by, laws_behind, laws_from, laws_of, laws_under, passes_in, universe_in}
 use Rattle.cc_ground.proofs.Actions.{front_behind}
 use Rattle.cc_ground.proofs.Counted.{under_some}
 use Rattle.cc_ground.proofs.Making.{MadeSoFar, made_end, made_more, made_lacks}
 use Rattle.cc_ground.proofs.Putting.{same_universe}
+use Rattle.cc_ground.proofs.Querying.{few_nodes, many_nodes}
 
 -- ---- the first range
 
@@ -286,9 +288,23 @@ few_laws u laws count limit many more counted first few walked second rest =
     ap (λ (b : Bool). if b then Some (past limits.LawInstances) else option_or (choice_refusal (choices_of_all u laws)) nodes) (le-ltb 1000000 (instances_of_all u laws) (omega (arith, counted, first, few)))
     ∙ ap (λ (b : Bool). option_or (if b then Some (past limits.Choices) else None) nodes) (le-ltb 16000000 (choices_of_all u laws) (omega (arith, walked, second, rest)))
 
-pub nodes_fit : (nodes same left room limit : ℕ) → left + nodes ≡ room → room ≡ limit → limit ≡ 16000000 → nodes ≡ same → node_refusal same ≡ None
-nodes_fit nodes same left room limit made begun is e = ap (λ (b : Bool). if b then Some (past limits.GroundNodes) else None) (le-ltb 16000000 same (omega (arith, made, begun, is, e)))
+-- ---- what was made with the room for all nodes, or stopped
 
-pub nodes_pass : (nodes same room limit : ℕ) (halt : Halt) → LacksRoom nodes room halt → halt ≡ halts.Full → room ≡ limit → limit ≡ 16000000 → nodes ≡ same → node_refusal same ≡ Some (past limits.GroundNodes)
-nodes_pass nodes same room limit halt lacks full begun is e =
-    let few : room < nodes = subst (LacksRoom nodes room) full lacks in ap (λ (b : Bool). if b then Some (past limits.GroundNodes) else None) (lt-ltb 16000000 same (omega (arith, few, begun, is, e)))
+module _ (old new : Maker) (all : List PlainGroundLaw) (was made : List GroundLaw) where
+  pub made_within : (done : Result (Unit {0}) Halt) (result : Result Laws Halt) → was ≡ [] → OnOk done (HasMade all was made old new) → IfOk result (λ laws. IsOk done × (plain_ground_laws laws ≡ map plain_ground_law made)) →
+      IfOk result (λ laws. plain_ground_laws laws ≡ all)
+  made_within done (Err halt) none put is = tt
+  made_within (Err halt) (Ok laws) none put is = absurd (false≢true is.0)
+  made_within (Ok unit) (Ok laws) none put is = is.1 ∙ put.made ∙ ap (λ (l : List GroundLaw). map plain_ground_law l ++ all) none
+
+  pub unrefused_within : (done : Result (Unit {0}) Halt) (result : Result Laws Halt) → old.room ≡ limit_number limits.GroundNodes → OnOk done (HasMade all was made old new) →
+      IfOk result (λ laws. IsOk done × (plain_ground_laws laws ≡ map plain_ground_law made)) → OnOk result (node_refusal (nodes_in all) ≡ None)
+  unrefused_within done (Err halt) limit put is = tt
+  unrefused_within (Err halt) (Ok laws) limit put is = absurd (false≢true is.0)
+  unrefused_within (Ok unit) (Ok laws) limit put is = few_nodes (nodes_in all) old.room (omega (arith, put.room)) limit
+
+pub refused_within : (count room : ℕ) (done : Result (Unit {0}) Halt) (result : Result Laws Halt) → room ≡ limit_number limits.GroundNodes → IfErr done (LacksRoom count room) → IfErr result (λ halt. IsErrAnd done (λ it. it ≡ halt)) →
+    IfErr result (λ halt. IsRefusedBy (node_refusal count) (fault_by halt))
+refused_within count room done (Ok laws) limit lacks is = tt
+refused_within count room (Ok unit) (Err halt) limit lacks is = absurd is
+refused_within count room (Err stop) (Err halt) limit lacks is = subst (λ (h : Halt). IsRefusedBy (node_refusal count) (fault_by h)) is (let ended : Result (Unit {0}) Halt = Err stop in many_nodes count room ended lacks limit)

@@ -1,72 +1,141 @@
--- Whether a formula is true for all objects, or for one, taken one after another.
-use Rattle.std.proofs.Common.{◌≡◌, ◌∙◌, ℕ, ◌+◌, ◌<◌, ◌≤◌, Bool, true, false, ◌&&◌, ◌||◌, not, List, length, drop, get_or, sym, ap}
+-- Whether a formula is true: its relations, its two parts, and brackets over objects that are taken one after another.
+use Rattle.std.proofs.Common.{◌≡◌, ◌∙◌, ◌⊎◌, inl, inr, ℕ, ◌+◌, ◌<◌, ◌≤◌, Bool, true, false, ◌&&◌, ◌||◌, not, List, length, drop, get_or, Option, option_map, Result, Ok, Err, IfOk, OnOk, refl, subst, sym, ap}
+use Rattle.std.proofs.lemmas.Bool.{false≢true}
 use Rattle.std.proofs.lemmas.List.{at_drop_more, at_drop_all}
 use Rattle.std.specs.Bool.{beq}
+use Rattle.std.specs.Global.{Box}
 use Rattle.std.specs.List.{list_all, list_any}
-use Rattle.cc_defs.specs.Resolved.{Formula}
+use Rattle.cc_defs.specs.declared.formula.Formula as kept
+use Rattle.cc_defs.specs.declared.formula.Term.{Term as TermTree}
+use Rattle.cc_defs.specs.Resolved.{Formula, Term, plain_formula, plain_term}
 use Rattle.cc_defs.specs.Resolved as resolved
-use Rattle.cc_defs.specs.Satisfaction.{Environment, bind}
-use Rattle.cc_defs.specs.Universe.{Universe}
+use Rattle.cc_defs.specs.Satisfaction.{Environment, Value as Meant, bind, given_value, satisfied, term_value}
+use Rattle.cc_defs.specs.Universe.{Universe, objects_of}
+use Rattle.cc_sorts.specs.Tables.{TableView}
+use Rattle.cc_ground.specs.declared.outermost.Joint.{Joint}
+use Rattle.cc_ground.specs.declared.pieces.Sign.{Sign}
+use Rattle.cc_ground.specs.declared.pieces.Sign.TheVariants as signs
+use Rattle.cc_ground.specs.declared.sums.Value.{Value}
 use Rattle.cc_ground.specs.Bindings.{BindingsView, environment_of}
-use Rattle.cc_ground.specs.Views.{passes_in}
+use Rattle.cc_ground.specs.Outermost.{bracket_truth, is_for_all, joint_of, joined_truth, sign_of, stand_values}
+use Rattle.cc_ground.specs.Pieces.{formula_of}
+use Rattle.cc_ground.specs.Views.{bare_universe, passes_in, plain_value}
+use Rattle.cc_ground.proofs.Bare.{bare_value}
+use Rattle.cc_ground.proofs.Meant.{all_is, some_is, two_is}
+
+-- ---- equations and comparisons
+
+module _ (table : TableView) (env : Environment) (s t : Term) where
+  abbrev truth_of : Formula → Bool
+  truth_of f = satisfied (bare_universe table) (λ number. 0) env f
+
+  so_valued : (join : Option Meant → Option Meant → Bool) → join (given_value (bare_universe table) env s) (given_value (bare_universe table) env t)
+      ≡ join (term_value (bare_universe table) env (λ number. 0) s) (term_value (bare_universe table) env (λ number. 0) t)
+  so_valued join = sym (ap (λ w. join w (term_value (bare_universe table) env (λ number. 0) t)) (bare_value table env s) ∙ ap (join (given_value (bare_universe table) env s)) (bare_value table env t))
+
+  so_related : (sign : Sign) → stand_values sign (given_value (bare_universe table) env s) (given_value (bare_universe table) env t) ≡ truth_of (formula_of sign s t)
+  so_related signs.Equal = so_valued (stand_values signs.Equal)
+  so_related signs.Less = so_valued (stand_values signs.Less)
+  so_related signs.AtMost = so_valued (stand_values signs.AtMost)
+
+pub related_so : (table : TableView) (env : Environment) (sign : Sign) (s t : Term) (one other : Option Value) → option_map plain_value one ≡ given_value (bare_universe table) env s → option_map plain_value other ≡ given_value (bare_universe table) env t →
+    stand_values sign (option_map plain_value one) (option_map plain_value other) ≡ satisfied (bare_universe table) (λ number. 0) env (formula_of sign s t)
+related_so table env sign s t one other first second =
+    ap (λ (w : Option Meant). stand_values sign w (option_map plain_value other)) first ∙ ap (stand_values sign (given_value (bare_universe table) env s)) second ∙ so_related table env s t sign
+
+abbrev pub IsRelation : kept.Formula → TermTree → TermTree → Type 0
+IsRelation whole l r = (whole ≡ kept.Equal l r) ⊎ ((whole ≡ kept.Less l r) ⊎ (whole ≡ kept.AtMost l r))
+
+pub relation_is : (whole : kept.Formula) (sign : Sign) (l r : TermTree) → IsRelation whole l r → sign ≡ sign_of (plain_formula whole) → formula_of sign (plain_term l) (plain_term r) ≡ plain_formula whole
+relation_is whole sign l r (inl is) same = ap (λ (s : Sign). formula_of s (plain_term l) (plain_term r)) (same ∙ ap (λ f. sign_of (plain_formula f)) is) ∙ sym (ap plain_formula is)
+relation_is whole sign l r (inr (inl is)) same = ap (λ (s : Sign). formula_of s (plain_term l) (plain_term r)) (same ∙ ap (λ f. sign_of (plain_formula f)) is) ∙ sym (ap plain_formula is)
+relation_is whole sign l r (inr (inr is)) same = ap (λ (s : Sign). formula_of s (plain_term l) (plain_term r)) (same ∙ ap (λ f. sign_of (plain_formula f)) is) ∙ sym (ap plain_formula is)
+
+-- ---- what is negated
+
+pub negated_on : {E : Type 0} (P : Type 0) (inner result : Result Bool E) → IfOk result (λ opposite. inner ≡ Ok (not opposite)) → OnOk inner P → OnOk result P
+negated_on P inner (Err error) is it = tt
+negated_on P inner (Ok opposite) is it = subst (λ (r : Result Bool _). OnOk r P) is it
+
+-- ---- brackets
 
 -- with the variable bound to the object
 pub passed_here : (u : Universe) (test : Formula) (env now bound : Environment) (variable object : ℕ) (passed : Bool) → passed ≡ passes_in u test bound → bound ≡ bind variable object now → now ≡ env →
     passed ≡ passes_in u test (bind variable object env)
 passed_here u test env now bound variable object passed is binds same = is ∙ ap (passes_in u test) (binds ∙ ap (bind variable object) same)
 
-pub all_more : (p : ℕ → Bool) (objects : List ℕ) (i : ℕ) (passed : Bool) → i < length objects → passed ≡ p (get_or objects i 0) → passed ≡ true →
-    list_all p (drop i objects) ≡ list_all p objects → list_all p (drop (i + 1) objects) ≡ list_all p objects
-all_more p objects i passed within is holds rest =
-    ap (λ (b : Bool). b && list_all p (drop (i + 1) objects)) (sym holds ∙ is) ∙ sym (at_drop_more (list_all p) objects i 0 within) ∙ rest
+differs : (passed all : Bool) → not (beq passed all) ≡ true → passed ≡ not all
+differs true true e = absurd (false≢true e)
+differs true false e = refl
+differs false true e = refl
+differs false false e = absurd (false≢true e)
 
-pub all_stop : (p : ℕ → Bool) (objects : List ℕ) (i : ℕ) (passed : Bool) → i < length objects → passed ≡ p (get_or objects i 0) → passed ≡ false →
-    list_all p (drop i objects) ≡ list_all p objects → false ≡ list_all p objects
-all_stop p objects i passed within is fails rest =
-    ap (λ (b : Bool). b && list_all p (drop (i + 1) objects)) (sym fails ∙ is) ∙ sym (at_drop_more (list_all p) objects i 0 within) ∙ rest
+agrees : (passed all : Bool) → not (beq passed all) ≡ false → passed ≡ all
+agrees true true e = refl
+agrees true false e = absurd (false≢true (sym e))
+agrees false true e = absurd (false≢true (sym e))
+agrees false false e = refl
 
-pub all_end : (p : ℕ → Bool) (objects : List ℕ) (i : ℕ) → length objects ≤ i → list_all p (drop i objects) ≡ list_all p objects → true ≡ list_all p objects
-all_end p objects i past rest = sym (at_drop_all (list_all p) objects i past) ∙ rest
+module _ (p : ℕ → Bool) (objects : List ℕ) (i : ℕ) where
+  abbrev part : Bool → List ℕ → Bool
+  part all l = bracket_truth all p l
 
-pub any_more : (p : ℕ → Bool) (objects : List ℕ) (i : ℕ) (passed : Bool) → i < length objects → passed ≡ p (get_or objects i 0) → passed ≡ false →
-    list_any p (drop i objects) ≡ list_any p objects → list_any p (drop (i + 1) objects) ≡ list_any p objects
-any_more p objects i passed within is fails rest =
-    ap (λ (b : Bool). b || list_any p (drop (i + 1) objects)) (sym fails ∙ is) ∙ sym (at_drop_more (list_any p) objects i 0 within) ∙ rest
+  -- where the first one of those that are left does not decide
+  pub bracket_more : (all passed : Bool) → i < length objects → passed ≡ p (get_or objects i 0) → not (beq passed all) ≡ false → part all (drop i objects) ≡ part all objects → part all (drop (i + 1) objects) ≡ part all objects
+  bracket_more true passed within is goes_on rest = ap (λ (b : Bool). b && list_all p (drop (i + 1) objects)) (sym (agrees passed true goes_on) ∙ is) ∙ sym (at_drop_more (list_all p) objects i 0 within) ∙ rest
+  bracket_more false passed within is goes_on rest = ap (λ (b : Bool). b || list_any p (drop (i + 1) objects)) (sym (agrees passed false goes_on) ∙ is) ∙ sym (at_drop_more (list_any p) objects i 0 within) ∙ rest
 
-pub any_stop : (p : ℕ → Bool) (objects : List ℕ) (i : ℕ) (passed : Bool) → i < length objects → passed ≡ p (get_or objects i 0) → passed ≡ true →
-    list_any p (drop i objects) ≡ list_any p objects → true ≡ list_any p objects
-any_stop p objects i passed within is holds rest =
-    ap (λ (b : Bool). b || list_any p (drop (i + 1) objects)) (sym holds ∙ is) ∙ sym (at_drop_more (list_any p) objects i 0 within) ∙ rest
+  -- where it decides
+  pub bracket_stop : (all passed : Bool) → i < length objects → passed ≡ p (get_or objects i 0) → not (beq passed all) ≡ true → part all (drop i objects) ≡ part all objects → passed ≡ part all objects
+  bracket_stop true passed within is stops rest =
+      let ends = differs passed true stops in
+      ends ∙ ap (λ (b : Bool). b && list_all p (drop (i + 1) objects)) (sym ends ∙ is) ∙ sym (at_drop_more (list_all p) objects i 0 within) ∙ rest
+  bracket_stop false passed within is stops rest =
+      let ends = differs passed false stops in
+      ends ∙ ap (λ (b : Bool). b || list_any p (drop (i + 1) objects)) (sym ends ∙ is) ∙ sym (at_drop_more (list_any p) objects i 0 within) ∙ rest
 
-pub any_end : (p : ℕ → Bool) (objects : List ℕ) (i : ℕ) → length objects ≤ i → list_any p (drop i objects) ≡ list_any p objects → false ≡ list_any p objects
-any_end p objects i past rest = sym (at_drop_all (list_any p) objects i past) ∙ rest
+  -- where none is left
+  pub bracket_end : (all : Bool) → length objects ≤ i → part all (drop i objects) ≡ part all objects → all ≡ part all objects
+  bracket_end true past rest = sym (at_drop_all (list_all p) objects i past) ∙ rest
+  bracket_end false past rest = sym (at_drop_all (list_any p) objects i past) ∙ rest
+
+abbrev pub IsBracket : kept.Formula → ℕ → ℕ → Box kept.Formula → Type 0
+IsBracket whole variable sort box = (whole ≡ kept.ForAll variable sort box) ⊎ (whole ≡ kept.Exists variable sort box)
+
+pub bracket_is_true : (u : Universe) (env : Environment) (whole inner : kept.Formula) (variable sort : ℕ) (box : Box kept.Formula) (all : Bool) → IsBracket whole variable sort box → inner ≡ box.value → all ≡ is_for_all (plain_formula whole) →
+    bracket_truth all (λ object. passes_in u (plain_formula inner) (bind variable object env)) (objects_of u sort) ≡ passes_in u (plain_formula whole) env
+bracket_is_true u env whole inner variable sort box all (inl is) same for_all =
+    let it = all_is whole inner variable sort box is same in
+    ap (λ (b : Bool). bracket_truth b (λ object. passes_in u (plain_formula inner) (bind variable object env)) (objects_of u sort)) (for_all ∙ ap is_for_all it) ∙ sym (ap (λ f. passes_in u f env) it)
+bracket_is_true u env whole inner variable sort box all (inr is) same for_all =
+    let it = some_is whole inner variable sort box is same in
+    ap (λ (b : Bool). bracket_truth b (λ object. passes_in u (plain_formula inner) (bind variable object env)) (objects_of u sort)) (for_all ∙ ap is_for_all it) ∙ sym (ap (λ f. passes_in u f env) it)
 
 -- ---- formulas of two
 
-module _ (u : Universe) (old : BindingsView) (f g whole : Formula) where
-  abbrev here : Formula → Bool
-  here h = passes_in u h (environment_of old)
+abbrev pub IsOfTwo : kept.Formula → Box kept.Formula → Box kept.Formula → Type 0
+IsOfTwo whole l r = (whole ≡ kept.Both l r) ⊎ ((whole ≡ kept.Either l r) ⊎ ((whole ≡ kept.Implies l r) ⊎ (whole ≡ kept.Same l r)))
 
-  abbrev at_second : BindingsView → Bool
-  at_second mid = passes_in u g (environment_of mid)
+module _ (u : Universe) (env : Environment) (whole f g : kept.Formula) (l r : Box kept.Formula) where
+  abbrev here : kept.Formula → Bool
+  here h = passes_in u (plain_formula h) env
 
-  pub both_second : (mid : BindingsView) (a b : Bool) → whole ≡ resolved.Both f g → mid ≡ old → a ≡ here f → a ≡ true → b ≡ at_second mid → b ≡ here whole
-  both_second mid a b is same first holds second = second ∙ ap at_second same ∙ ap (λ (t : Bool). t && here g) (sym holds ∙ first) ∙ sym (ap here is)
+  joined_so : (joint : Joint) (all : Formula) → joint ≡ joint_of (plain_formula whole) → plain_formula whole ≡ all → joined_truth (joint_of all) (here f) (here g) ≡ passes_in u all env → joined_truth joint (here f) (here g) ≡ here whole
+  joined_so joint all is it so = ap (λ (j : Joint). joined_truth j (here f) (here g)) (is ∙ ap joint_of it) ∙ so ∙ sym (ap (λ w. passes_in u w env) it)
 
-  pub both_first : (a : Bool) → whole ≡ resolved.Both f g → a ≡ here f → a ≡ false → a ≡ here whole
-  both_first a is first fails = fails ∙ ap (λ (t : Bool). t && here g) (sym fails ∙ first) ∙ sym (ap here is)
+  pub two_true : (joint : Joint) → IsOfTwo whole l r → joint ≡ joint_of (plain_formula whole) → f ≡ l.value → g ≡ r.value → joined_truth joint (here f) (here g) ≡ here whole
+  two_true joint (inl is) same first second = joined_so joint _ same (two_is kept.Both resolved.Both whole f g l r refl is first second) refl
+  two_true joint (inr (inl is)) same first second = joined_so joint _ same (two_is kept.Either resolved.Either whole f g l r refl is first second) refl
+  two_true joint (inr (inr (inl is))) same first second = joined_so joint _ same (two_is kept.Implies resolved.Implies whole f g l r refl is first second) refl
+  two_true joint (inr (inr (inr is))) same first second = joined_so joint _ same (two_is kept.Same resolved.Same whole f g l r refl is first second) refl
 
-  pub either_second : (mid : BindingsView) (a b : Bool) → whole ≡ resolved.Either f g → mid ≡ old → a ≡ here f → a ≡ false → b ≡ at_second mid → b ≡ here whole
-  either_second mid a b is same first fails second = second ∙ ap at_second same ∙ ap (λ (t : Bool). t || here g) (sym fails ∙ first) ∙ sym (ap here is)
-
-  pub either_first : (a : Bool) → whole ≡ resolved.Either f g → a ≡ here f → a ≡ true → a ≡ here whole
-  either_first a is first holds = holds ∙ ap (λ (t : Bool). t || here g) (sym holds ∙ first) ∙ sym (ap here is)
-
-  pub implies_second : (mid : BindingsView) (a b : Bool) → whole ≡ resolved.Implies f g → mid ≡ old → a ≡ here f → a ≡ true → b ≡ at_second mid → b ≡ here whole
-  implies_second mid a b is same first holds second = second ∙ ap at_second same ∙ ap (λ (t : Bool). not t || here g) (sym holds ∙ first) ∙ sym (ap here is)
-
-  pub implies_first : (a : Bool) → whole ≡ resolved.Implies f g → a ≡ here f → a ≡ false → not a ≡ here whole
-  implies_first a is first fails = ap not fails ∙ ap (λ (t : Bool). not t || here g) (sym fails ∙ first) ∙ sym (ap here is)
-
-  pub same_both : (mid : BindingsView) (a b : Bool) → whole ≡ resolved.Same f g → mid ≡ old → a ≡ here f → b ≡ at_second mid → beq a b ≡ here whole
-  same_both mid a b is same first second = ap (λ (t : Bool). beq t b) first ∙ ap (beq (here f)) (second ∙ ap at_second same) ∙ sym (ap here is)
+-- the second part behind the first one, which has this truth
+pub then_second : {E : Type 0} (u : Universe) (old mid : BindingsView) (whole f g : kept.Formula) (l r : Box kept.Formula) (joint : Joint) (first : Bool) (result : Result Bool E) → IsOfTwo whole l r → joint ≡ joint_of (plain_formula whole) →
+    f ≡ l.value → g ≡ r.value → mid ≡ old → first ≡ passes_in u (plain_formula f) (environment_of old) → IfOk result (λ passed. passed ≡ joined_truth joint first (passes_in u (plain_formula g) (environment_of mid))) →
+    IfOk result (λ passed. passed ≡ passes_in u (plain_formula whole) (environment_of old))
+then_second u old mid whole f g l r joint first (Err error) two is fv gv same one other = tt
+then_second u old mid whole f g l r joint first (Ok passed) two is fv gv same one other =
+    other
+    ∙ ap (λ (w : BindingsView). joined_truth joint first (passes_in u (plain_formula g) (environment_of w))) same
+    ∙ ap (λ (b : Bool). joined_truth joint b (passes_in u (plain_formula g) (environment_of old))) one
+    ∙ two_true u (environment_of old) whole f g l r joint two is fv gv

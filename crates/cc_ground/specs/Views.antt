@@ -1,9 +1,13 @@
 -- What a table and a signature are about, and what the makers of terms leave.
-use Rattle.std.specs.Prelude.{◌≡◌, ℕ, Bool, ◌+◌, ◌<◌, List, [], ◌++◌, length, map, flat_map}
+use Rattle.std.specs.Prelude.{◌≡◌, ℕ, Bool, true, false, Option, Some, None, ◌+◌, ◌<◌, List, [], ◌++◌, length, map, flat_map}
 use Rattle.std.specs.List.{filter}
 use Rattle.cc_arena.specs.declared.ground_laws.GroundLaw.{GroundLaw}
 use Rattle.cc_defs.specs.declared.law.Range.{Range}
 use Rattle.cc_defs.specs.declared.node.Node.{Node}
+use Rattle.cc_defs.specs.declared.refusal.Fault.{Fault}
+use Rattle.cc_defs.specs.declared.refusal.Fault.TheVariants as faults
+use Rattle.cc_defs.specs.declared.refusal.LimitAt.TheVariants as limits
+use Rattle.cc_defs.specs.Refusals.{past}
 use Rattle.cc_defs.specs.Resolved.{BaseLaw, Formula, Law}
 use Rattle.cc_defs.specs.Satisfaction.{Environment, Value as Meant, Thing, Whole, satisfied}
 use Rattle.cc_defs.specs.Signatures.{Signature}
@@ -55,6 +59,11 @@ abbrev pub plain_value : Value → Meant
 plain_value (values.Thing object) = Thing object
 plain_value (values.Whole plus minus) = Whole plus minus
 
+-- a list, where it is asked for
+abbrev pub some_if : Bool → List ℕ → Option (List ℕ)
+some_if true items = Some items
+some_if false items = None
+
 -- only the nodes and the room for more change
 pub record IsLike (old new : Maker) : Type 0 where
   pub table : new.table.now ≡ old.table.now
@@ -71,6 +80,11 @@ pub record HasPut (nodes : List Node) (old new : Maker) : Type 0 where
 abbrev pub LacksRoom : ℕ → ℕ → Halt → Type 0
 LacksRoom count room halts.Full = room < count
 LacksRoom count room halts.OutOfMemory = Unit {0}
+
+-- the fault by which a call ends that stopped making nodes
+abbrev pub fault_by : Halt → Fault
+fault_by halts.Full = faults.Refused (past limits.GroundNodes)
+fault_by halts.OutOfMemory = faults.OutOfMemory
 
 -- these laws were made behind those that are there
 pub record HasMade (laws : List PlainGroundLaw) (was is_now : List GroundLaw) (old new : Maker) : Type 0 where

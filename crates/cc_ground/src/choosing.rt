@@ -46,12 +46,10 @@ fn has_constant(term: &Term) -> bool
 {
     match term {
         Term::Constant { .. } => true,
-        Term::Plus(left, right) => has_constant(left) || has_constant(right),
-        Term::Minus(left, right) => has_constant(left) || has_constant(right),
-        Term::Object(_) => false,
-        Term::Variable(_) => false,
-        Term::Nothing => false,
-        Term::Number(_) => false,
+        Term::Plus(left, right) | Term::Minus(left, right) => {
+            has_constant(left) || has_constant(right)
+        }
+        Term::Object(_) | Term::Variable(_) | Term::Nothing | Term::Number(_) => false,
     }
 }
 
@@ -69,18 +67,15 @@ pub(crate) fn has_lists(formula: &Formula) -> bool
     ensures { result ≡ has_lists_of (plain_formula formula.now) }
 {
     match formula {
-        Formula::True => false,
-        Formula::False => false,
+        Formula::True | Formula::False => false,
         Formula::Equal(left, right) => has_sum(left, right) && have_constant(left, right),
-        Formula::Less(left, right) => have_constant(left, right),
-        Formula::AtMost(left, right) => have_constant(left, right),
+        Formula::Less(left, right) | Formula::AtMost(left, right) => have_constant(left, right),
         Formula::Not(inner) => has_lists(inner),
-        Formula::Both(left, right) => has_lists(left) || has_lists(right),
-        Formula::Either(left, right) => has_lists(left) || has_lists(right),
-        Formula::Implies(left, right) => has_lists(left) || has_lists(right),
-        Formula::Same(left, right) => has_lists(left) || has_lists(right),
-        Formula::ForAll(_, _, inner) => has_lists(inner),
-        Formula::Exists(_, _, inner) => has_lists(inner),
+        Formula::Both(left, right)
+        | Formula::Either(left, right)
+        | Formula::Implies(left, right)
+        | Formula::Same(left, right) => has_lists(left) || has_lists(right),
+        Formula::ForAll(_, _, inner) | Formula::Exists(_, _, inner) => has_lists(inner),
     }
 }
 
@@ -205,32 +200,20 @@ fn with_formula(
         return Ok(count);
     }
     match formula {
-        Formula::True => Ok(count),
-        Formula::False => Ok(count),
+        Formula::True | Formula::False => Ok(count),
         Formula::Equal(left, right) => with_equation(alloc, table, sig, env, count, left, right),
-        Formula::Less(left, right) => with_lists(alloc, table, sig, env, count, left, right),
-        Formula::AtMost(left, right) => with_lists(alloc, table, sig, env, count, left, right),
+        Formula::Less(left, right) | Formula::AtMost(left, right) => {
+            with_lists(alloc, table, sig, env, count, left, right)
+        }
         Formula::Not(inner) => with_formula(alloc, table, sig, env, count, inner),
-        Formula::Both(left, right) => {
+        Formula::Both(left, right)
+        | Formula::Either(left, right)
+        | Formula::Implies(left, right)
+        | Formula::Same(left, right) => {
             let count = with_formula(alloc, table, sig, env, count, left)?;
             with_formula(alloc, table, sig, env, count, right)
         }
-        Formula::Either(left, right) => {
-            let count = with_formula(alloc, table, sig, env, count, left)?;
-            with_formula(alloc, table, sig, env, count, right)
-        }
-        Formula::Implies(left, right) => {
-            let count = with_formula(alloc, table, sig, env, count, left)?;
-            with_formula(alloc, table, sig, env, count, right)
-        }
-        Formula::Same(left, right) => {
-            let count = with_formula(alloc, table, sig, env, count, left)?;
-            with_formula(alloc, table, sig, env, count, right)
-        }
-        Formula::ForAll(variable, sort, inner) => {
-            with_instances(alloc, table, sig, env, count, *variable, *sort, inner)
-        }
-        Formula::Exists(variable, sort, inner) => {
+        Formula::ForAll(variable, sort, inner) | Formula::Exists(variable, sort, inner) => {
             with_instances(alloc, table, sig, env, count, *variable, *sort, inner)
         }
     }

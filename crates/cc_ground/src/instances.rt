@@ -1,7 +1,7 @@
 //! The ground laws of base laws.
-ghost use Rattle.std.specs.Prelude.{◌≡◌, ◌+◌, ◌∷◌, [], List as Items, None, Some, length, map, IfOk, IfErr, OnOk};
+ghost use Rattle.std.specs.Prelude.{◌≡◌, ◌+◌, ◌∷◌, [], List as Items, None, Some, length, map, IfOk, IfErr, IsErrAnd, IsOk, OnOk};
 ghost use Rattle.std.specs.Option.{option_map};
-ghost use Rattle.cc_arena.specs.GroundViews.{plain_ground_laws};
+ghost use Rattle.cc_arena.specs.GroundViews.{plain_ground_law, plain_ground_laws};
 ghost use Rattle.cc_arena.specs.Meanings.{MeanLaws};
 ghost use Rattle.cc_defs.specs.Conditions.{AreGroundLaws};
 ghost use Rattle.cc_defs.specs.Declarations.{Declaration, symbols};
@@ -13,8 +13,8 @@ ghost use Rattle.cc_defs.specs.Resolved.{plain_base_law, plain_formula, plain_la
 ghost use Rattle.cc_defs.specs.Universe.{boolean_actions, universe};
 ghost use Rattle.cc_sorts.specs.Tables.{IsTable, IsSignatureOf};
 ghost use Rattle.cc_ground.specs.Bindings.{environment_of, no_bindings};
-ghost use Rattle.cc_ground.specs.Counting.{length_of_part, laws_refusal, nodes_in};
-ghost use Rattle.cc_ground.specs.Views.{HasMade, IsLike, LacksRoom, laws_behind, laws_of, laws_under, universe_in, universe_of};
+ghost use Rattle.cc_ground.specs.Counting.{length_of_part, laws_refusal, node_refusal, nodes_in};
+ghost use Rattle.cc_ground.specs.Views.{HasMade, IsLike, LacksRoom, fault_by, laws_behind, laws_of, laws_under, universe_in, universe_of};
 ghost use Rattle.cc_sorts.specs.Tables.{IsSignatureFor};
 
 use crate::choosing::choices_of_laws;
@@ -24,7 +24,7 @@ use crate::heads::head_under;
 use crate::laws::{
     declared_have_own_values, declared_have_their_kinds, declared_have_their_values,
 };
-use crate::maker::{Halt, Maker, narrow};
+use crate::maker::{Halt, Maker, fault_of, narrow};
 use crate::pairs::boolean_actions_of;
 use crate::values::values_in_range;
 use cc_arena::laws::{ground_laws_fit, ground_laws_mean_laws, heads_there_are_ground};
@@ -213,6 +213,70 @@ impl<'t> Maker<'t> {
     }
 }
 
+/// The laws that were made, if nothing stopped that.
+fn laws_made<'a>(made: Vec<GroundLaw<'a>>, done: Result<(), Halt>) -> Result<Laws<'a>, Halt>
+    ensures made { IfOk result (λ laws.
+        IsOk done × (plain_ground_laws laws ≡ map plain_ground_law made.entry.items)) }
+    ensures stopped { IfErr result (λ halt. IsErrAnd done (λ it. it ≡ halt)) }
+{
+    match done {
+        Ok(()) => Ok(Laws::of(made)),
+        Err(halt) => Err(halt),
+    }
+}
+
+/// The ground laws of base laws, where there is room for their nodes; the actions are the Boolean ones.
+fn laws_within<'a>(
+    alloc: Global,
+    table: &Table,
+    sig: &Sig,
+    actions: &[u32],
+    laws: &[BaseLaw],
+    terms: Terms<'a>,
+) -> Result<Laws<'a>, Halt>
+    requires { actions.now ≡ boolean_actions (universe_of table.now sig.now) }
+    ensures made { IfOk result (λ made. plain_ground_laws made
+        ≡ words.ground_laws (universe_of table.now sig.now) (map plain_base_law laws.now)) }
+    ensures unrefused { OnOk result (node_refusal (nodes_in (words.ground_laws
+        (universe_of table.now sig.now) (map plain_base_law laws.now))) ≡ None) }
+    ensures refused { IfErr result (λ halt. IsRefusedBy (node_refusal (nodes_in (words.ground_laws
+        (universe_of table.now sig.now) (map plain_base_law laws.now)))) (fault_by halt)) }
+{
+    let mut made = Vec::new(alloc);
+    let mut maker = Maker::new(alloc, table, sig, LimitAt::GroundNodes.number() as usize);
+    let done = maker.add_all(alloc, terms, &mut made, actions, laws);
+    laws_made(made, done)
+}
+
+/// The ground laws of base laws, as `ground` answers them; the actions are the Boolean ones.
+fn laws_with<'a>(
+    alloc: Global,
+    table: &Table,
+    sig: &Sig,
+    actions: &[u32],
+    laws: &[BaseLaw],
+    terms: Terms<'a>,
+) -> Result<Laws<'a>, Fault>
+    requires { actions.now ≡ boolean_actions (universe_of table.now sig.now) }
+    ensures made { IfOk result (λ made. plain_ground_laws made
+        ≡ words.ground_laws (universe_of table.now sig.now) (map plain_base_law laws.now)) }
+    ensures unrefused { OnOk result
+        (laws_refusal (universe_of table.now sig.now) (map plain_base_law laws.now) ≡ None) }
+    ensures refused { IfErr result
+        (IsRefusedBy (laws_refusal (universe_of table.now sig.now) (map plain_base_law laws.now))) }
+{
+    if count_all(table, sig, actions, laws) > LimitAt::LawInstances.number() as usize {
+        return Err(Fault::Refused(Refusal::past(LimitAt::LawInstances)));
+    }
+    if choices_of_laws(alloc, table, sig, laws)? > LimitAt::Choices.number() as usize {
+        return Err(Fault::Refused(Refusal::past(LimitAt::Choices)));
+    }
+    match laws_within(alloc, table, sig, actions, laws, terms) {
+        Ok(made) => Ok(made),
+        Err(halt) => Err(fault_of(halt)),
+    }
+}
+
 /// The ground laws of base laws, as `ground` answers them.
 fn ground_laws<'a>(
     alloc: Global,
@@ -230,19 +294,7 @@ fn ground_laws<'a>(
         (IsRefusedBy (laws_refusal (universe_of table.now sig.now) (map plain_base_law laws.now))) }
 {
     let actions = boolean_actions_of(alloc, table, sig)?;
-    if count_all(table, sig, &actions, laws.items()) > LimitAt::LawInstances.number() as usize {
-        return Err(Fault::Refused(Refusal::past(LimitAt::LawInstances)));
-    }
-    if choices_of_laws(alloc, table, sig, laws.items())? > LimitAt::Choices.number() as usize {
-        return Err(Fault::Refused(Refusal::past(LimitAt::Choices)));
-    }
-    let mut made = Vec::new(alloc);
-    let mut maker = Maker::new(alloc, table, sig, LimitAt::GroundNodes.number() as usize);
-    match maker.add_all(alloc, *terms, &mut made, &actions, laws.items()) {
-        Ok(()) => Ok(Laws::of(made)),
-        Err(Halt::Full) => Err(Fault::Refused(Refusal::past(LimitAt::GroundNodes))),
-        Err(Halt::OutOfMemory) => Err(Fault::OutOfMemory),
-    }
+    laws_with(alloc, table, sig, &actions, laws.items(), *terms)
 }
 
 /// The ground laws of base laws: for each base law in order, and each instance of it in order, the instance's law. A causal law

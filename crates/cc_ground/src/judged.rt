@@ -110,7 +110,7 @@ fn counted(total: Total, minus: bool, number: u32) -> Result<Total, OutOfMemory>
     }
 }
 
-fn compares(sign: Sign, plus: u64, minus: u64) -> bool
+pub(crate) fn compares(sign: Sign, plus: u64, minus: u64) -> bool
     ensures { result ≡ stands sign plus minus }
 {
     match sign {
@@ -210,7 +210,7 @@ impl<'t> Maker<'t> {
         Ok(count)
     }
 
-    fn put_truth(&mut self, holds: bool) -> Result<(), Halt>
+    pub(crate) fn put_truth(&mut self, holds: bool) -> Result<(), Halt>
         ensures put { OnOk result (HasPut (postfix (truth_of holds)) self.old self.new) }
         ensures full { IfErr result (LacksRoom (length (postfix (truth_of holds))) self.old.room) }
     {

@@ -12,6 +12,7 @@ mod instances;
 mod judged;
 pub mod laws;
 mod maker;
+mod outermost;
 mod pairs;
 mod pieces;
 mod queries;

@@ -9,14 +9,15 @@ ghost use Rattle.cc_defs.specs.Nodes as words;
 ghost use Rattle.cc_defs.specs.Universe.{objects_of as objects_in};
 ghost use Rattle.cc_defs.specs.Satisfaction.{bind};
 ghost use Rattle.cc_ground.specs.Bindings.{environment_of, no_bindings};
-ghost use Rattle.cc_ground.specs.Views.{HasPut, IsLike, LacksRoom, plain_side, universe_in};
+ghost use Rattle.cc_ground.specs.Views.{HasPut, IsLike, LacksRoom, fault_by, plain_side, universe_in};
 
 use crate::bindings::Bindings;
+use crate::outermost::{joining_node, sign_in};
 use crate::pieces::{Sign, has_sum};
 use crate::sides::{Side, term_side};
 use crate::values::{index_in, objects_of};
 use cc_arena::Terms;
-use cc_defs::{Formula, Node, OutOfMemory, Sig, Term};
+use cc_defs::{Fault, Formula, LimitAt, Node, OutOfMemory, Refusal, Sig, Term};
 use cc_sorts::Table;
 use std::alloc::{AllocFailed, Global};
 
@@ -47,6 +48,16 @@ impl From<OutOfMemory> for Halt {
 
     fn from(_: OutOfMemory) -> Self {
         Halt::OutOfMemory
+    }
+}
+
+/// The fault by which a call ends that stopped making nodes.
+pub(crate) fn fault_of(halt: Halt) -> Fault
+    ensures { result ≡ fault_by halt }
+{
+    match halt {
+        Halt::Full => Fault::Refused(Refusal::past(LimitAt::GroundNodes)),
+        Halt::OutOfMemory => Fault::OutOfMemory,
     }
 }
 
@@ -136,6 +147,23 @@ impl<'t> Maker<'t> {
         self.push(Node::All(2))
     }
 
+    /// Both constants have the value at these places.
+    fn put_common(
+        &mut self,
+        constant: u32,
+        index: usize,
+        other: u32,
+        place: usize,
+    ) -> Result<(), Halt>
+        ensures put { OnOk result (HasPut (postfix
+            (all_of (terms.Atom constant index ∷ terms.Atom other place ∷ []))) self.old self.new) }
+        ensures full { IfErr result (LacksRoom 3 self.old.room) }
+    {
+        let value = narrow(index)?;
+        let place = narrow(place)?;
+        self.put_both(constant, value, other, place)
+    }
+
     /// For each common value, in the order of the first constant's: both have it. Answers how many there are.
     fn put_commons(
         &mut self,
@@ -154,7 +182,7 @@ impl<'t> Maker<'t> {
         let mut count: usize = 0;
         for (index, value) in values.iter().enumerate() {
             if let Some(place) = index_in(others, *value) {
-                self.put_both(constant, narrow(index)?, other, narrow(place)?)?;
+                self.put_common(constant, index, other, place)?;
                 count += 1;
             }
         }
@@ -180,6 +208,37 @@ impl<'t> Maker<'t> {
         self.push(Node::Any(count))
     }
 
+    /// The equation of a constant and a side.
+    fn put_constant(&mut self, constant: u32, values: &[u32], side: Side<'_>) -> Result<(), Halt>
+        ensures put { OnOk result (HasPut (postfix (words.equation
+            (words.Constant constant values.now) (plain_side side.entry))) self.old self.new) }
+        ensures full { IfErr result (LacksRoom (length (postfix (words.equation
+            (words.Constant constant values.now) (plain_side side.entry)))) self.old.room) }
+    {
+        match side {
+            Side::Absent => self.push(Node::False),
+            Side::Value(value) => self.put_atom(constant, values, value),
+            Side::Constant {
+                number,
+                values: others,
+            } => self.put_constants(constant, values, number, others),
+        }
+    }
+
+    /// The equation of a value and a side.
+    fn put_value(&mut self, value: u32, side: Side<'_>) -> Result<(), Halt>
+        ensures put { OnOk result (HasPut
+            (postfix (words.equation (words.Value value) (plain_side side.entry))) self.old self.new) }
+        ensures full { IfErr result (LacksRoom (length
+            (postfix (words.equation (words.Value value) (plain_side side.entry)))) self.old.room) }
+    {
+        match side {
+            Side::Absent => self.push(Node::False),
+            Side::Value(other) => self.put_truth(value == other),
+            Side::Constant { number, values } => self.put_atom(number, values, value),
+        }
+    }
+
     /// The equation of two sides.
     fn put_sides(&mut self, left: Side<'_>, right: Side<'_>) -> Result<(), Halt>
         ensures put { OnOk result (HasPut (postfix
@@ -187,26 +246,10 @@ impl<'t> Maker<'t> {
         ensures full { IfErr result (LacksRoom (length (postfix
             (words.equation (plain_side left.entry) (plain_side right.entry)))) self.old.room) }
     {
-        match (left, right) {
-            (Side::Absent, _) | (_, Side::Absent) => self.push(Node::False),
-            (Side::Value(value), Side::Value(other)) => self.push(if value == other {
-                Node::True
-            } else {
-                Node::False
-            }),
-            (Side::Constant { number, values }, Side::Value(value)) => {
-                self.put_atom(number, values, value)
-            }
-            (Side::Value(value), Side::Constant { number, values }) => {
-                self.put_atom(number, values, value)
-            }
-            (
-                Side::Constant { number, values },
-                Side::Constant {
-                    number: other,
-                    values: others,
-                },
-            ) => self.put_constants(number, values, other, others),
+        match left {
+            Side::Absent => self.push(Node::False),
+            Side::Value(value) => self.put_value(value, right),
+            Side::Constant { number, values } => self.put_constant(number, values, right),
         }
     }
 
@@ -293,32 +336,23 @@ impl<'t> Maker<'t> {
             Formula::True => self.push(Node::True),
             Formula::False => self.push(Node::False),
             Formula::Equal(left, right) => self.put_equal(alloc, left, right),
-            Formula::Less(left, right) => self.put_judged(alloc, Sign::Less, left, right),
-            Formula::AtMost(left, right) => self.put_judged(alloc, Sign::AtMost, left, right),
+            Formula::Less(left, right) | Formula::AtMost(left, right) => {
+                self.put_judged(alloc, sign_in(formula), left, right)
+            }
             Formula::Not(inner) => self.put_with(alloc, inner, Node::Not),
-            Formula::Both(left, right) => {
-                self.put(alloc, left)?;
-                self.put_with(alloc, right, Node::All(2))
-            }
-            Formula::Either(left, right) => {
-                self.put(alloc, left)?;
-                self.put_with(alloc, right, Node::Any(2))
-            }
             Formula::Implies(left, right) => {
                 self.put_with(alloc, left, Node::Not)?;
                 self.put_with(alloc, right, Node::Any(2))
             }
-            Formula::Same(left, right) => {
+            Formula::Both(left, right)
+            | Formula::Either(left, right)
+            | Formula::Same(left, right) => {
                 self.put(alloc, left)?;
-                self.put_with(alloc, right, Node::Same)
+                self.put_with(alloc, right, joining_node(formula, 2))
             }
-            Formula::ForAll(variable, sort, inner) => {
+            Formula::ForAll(variable, sort, inner) | Formula::Exists(variable, sort, inner) => {
                 let count = self.put_instances(alloc, *variable, *sort, inner)?;
-                self.push(Node::All(count))
-            }
-            Formula::Exists(variable, sort, inner) => {
-                let count = self.put_instances(alloc, *variable, *sort, inner)?;
-                self.push(Node::Any(count))
+                self.push(joining_node(formula, count))
             }
         }
     }

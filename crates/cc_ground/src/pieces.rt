@@ -44,13 +44,8 @@ fn is_sum(term: &Term) -> bool
     ensures { result ≡ is_sum_of (plain_term term.now) }
 {
     match term {
-        Term::Number(_) => true,
-        Term::Plus(..) => true,
-        Term::Minus(..) => true,
-        Term::Constant { .. } => false,
-        Term::Object(_) => false,
-        Term::Variable(_) => false,
-        Term::Nothing => false,
+        Term::Number(_) | Term::Plus(..) | Term::Minus(..) => true,
+        Term::Constant { .. } | Term::Object(_) | Term::Variable(_) | Term::Nothing => false,
     }
 }
 
@@ -127,12 +122,10 @@ fn gather(
         Term::Constant { symbol, args } => {
             gather_constant(alloc, table, sig, env, *symbol, args, constants)
         }
-        Term::Plus(left, right) => gather_both(alloc, table, sig, env, left, right, constants),
-        Term::Minus(left, right) => gather_both(alloc, table, sig, env, left, right, constants),
-        Term::Object(_) => Ok(true),
-        Term::Variable(_) => Ok(true),
-        Term::Nothing => Ok(true),
-        Term::Number(_) => Ok(true),
+        Term::Plus(left, right) | Term::Minus(left, right) => {
+            gather_both(alloc, table, sig, env, left, right, constants)
+        }
+        Term::Object(_) | Term::Variable(_) | Term::Nothing | Term::Number(_) => Ok(true),
     }
 }
 

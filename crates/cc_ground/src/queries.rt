@@ -7,17 +7,17 @@ ghost use Rattle.cc_sorts.specs.Tables.{IsTable, IsSignatureOf};
 ghost use Rattle.cc_defs.specs.Conditions.{IsGroundQuery};
 ghost use Rattle.cc_defs.specs.Refusals.{IsRefusedBy};
 ghost use Rattle.cc_ground.specs.Bindings.{no_bindings};
-ghost use Rattle.cc_ground.specs.Counting.{nodes_in_query, nodes_of_claim, nodes_of_conditions, query_refusal};
+ghost use Rattle.cc_ground.specs.Counting.{node_refusal, nodes_in_query, nodes_of_claim, nodes_of_conditions, query_refusal};
 ghost use Rattle.cc_defs.specs.GroundLaws as words;
 ghost use Rattle.cc_arena.specs.Meanings.{MeansQuery};
 ghost use Rattle.cc_defs.specs.Universe.{universe};
 ghost use Rattle.cc_arena.specs.GroundViews.{plain_ground_condition, plain_ground_query};
-ghost use Rattle.cc_ground.specs.Views.{IsLike, LacksRoom, universe_in, universe_of};
+ghost use Rattle.cc_ground.specs.Views.{IsLike, LacksRoom, fault_by, universe_in, universe_of};
 ghost use Rattle.cc_sorts.specs.Tables.{IsSignatureFor};
 
 use crate::choosing::choices_of_asked;
 use crate::laws::declared_have_own_values;
-use crate::maker::{Halt, Maker};
+use crate::maker::{Halt, Maker, fault_of};
 use cc_arena::laws::{ground_queries_fit, ground_queries_mean_queries};
 use cc_arena::{GroundCondition, GroundQuery, Terms};
 use cc_defs::{Condition, Fault, LimitAt, List, Query, Refusal, Sig};
@@ -121,6 +121,26 @@ impl<'t> Maker<'t> {
         })
     }
 }
+/// The ground query of a query with this range, where there is room for its nodes.
+fn query_within<'a>(
+    alloc: Global,
+    table: &Table,
+    sig: &Sig,
+    range: (u32, u32),
+    query: &Query,
+    terms: Terms<'a>,
+) -> Result<GroundQuery<'a>, Halt>
+    ensures made { IfOk result (λ made. plain_ground_query made
+        ≡ words.ground_query (universe_of table.now sig.now) range (plain_query query.now)) }
+    ensures unrefused { OnOk result (node_refusal (nodes_in_query (words.ground_query
+        (universe_of table.now sig.now) range (plain_query query.now))) ≡ None) }
+    ensures refused { IfErr result (λ halt. IsRefusedBy (node_refusal (nodes_in_query
+        (words.ground_query (universe_of table.now sig.now) range (plain_query query.now))))
+        (fault_by halt)) }
+{
+    let mut maker = Maker::new(alloc, table, sig, LimitAt::GroundNodes.number() as usize);
+    maker.query(alloc, terms, range, query)
+}
 
 /// The ground query of a query that has its range of horizons. Its conditions and its claim have the terms of their formulas,
 /// which are true exactly where these are satisfied.
@@ -160,10 +180,8 @@ pub fn ground_query<'a>(
     if choices_of_asked(alloc, table, sig, query)? > LimitAt::Choices.number() as usize {
         return Err(Fault::Refused(Refusal::past(LimitAt::Choices)));
     }
-    let mut maker = Maker::new(alloc, table, sig, LimitAt::GroundNodes.number() as usize);
-    match maker.query(alloc, *terms, range, query) {
+    match query_within(alloc, table, sig, range, query, *terms) {
         Ok(made) => Ok(made),
-        Err(Halt::Full) => Err(Fault::Refused(Refusal::past(LimitAt::GroundNodes))),
-        Err(Halt::OutOfMemory) => Err(Fault::OutOfMemory),
+        Err(halt) => Err(fault_of(halt)),
     }
 }

@@ -8,7 +8,7 @@ ghost use Rattle.cc_sorts.specs.Tables.{TableView};
 ghost use Rattle.cc_defs.specs.Satisfaction.{cons_both};
 ghost use Rattle.cc_defs.specs.Satisfaction as words;
 ghost use Rattle.cc_ground.specs.Bindings.{environment_of};
-ghost use Rattle.cc_ground.specs.Views.{bare_universe, universe_of, plain_side};
+ghost use Rattle.cc_ground.specs.Views.{bare_universe, plain_side, some_if, universe_of};
 
 use crate::bindings::Bindings;
 use crate::sums::object_given;
@@ -36,32 +36,30 @@ fn argument(table: &Table, env: &Bindings, term: &Term) -> Result<Option<u32>, O
     match term {
         Term::Object(object) => Ok(Some(*object)),
         Term::Variable(variable) => Ok(env.value(*variable)),
-        Term::Constant { .. } => Ok(None),
-        Term::Nothing => Ok(None),
-        Term::Number(_) => object_given(table, env, term),
-        Term::Plus(..) => object_given(table, env, term),
-        Term::Minus(..) => object_given(table, env, term),
+        Term::Constant { .. } | Term::Nothing => Ok(None),
+        Term::Number(_) | Term::Plus(..) | Term::Minus(..) => object_given(table, env, term),
     }
 }
 
-/// The objects that arguments stand for, where all of them stand for one.
-fn arguments(
-    alloc: Global,
+/// The objects that arguments stand for, in a list that is empty before, where all of them stand for one. Answers whether they
+/// do.
+fn add_arguments(
     table: &Table,
     env: &Bindings,
     terms: &[Term],
-) -> Result<Option<Vec<u32>>, OutOfMemory>
-    ensures { IfOk result (λ found. option_map (λ args. args.items) found ≡ words.arguments
+    args: &mut Vec<u32>,
+) -> Result<bool, OutOfMemory>
+    requires { args.now.items ≡ [] }
+    ensures { IfOk result (λ all. some_if all args.new.items ≡ words.arguments
         (bare_universe table.now) (environment_of env.now) (terms_of (map plain_term terms.now))) }
 {
-    let mut args = Vec::with_capacity(alloc, terms.len())?;
     for term in terms {
         let Some(object) = argument(table, env, term)? else {
-            return Ok(None);
+            return Ok(false);
         };
         args.push(object)?;
     }
-    Ok(Some(args))
+    Ok(true)
 }
 
 /// The number of the ground constant of a symbol with one argument, where that is there.
@@ -72,6 +70,27 @@ fn meant_at(sig: &Sig, symbol: u32, arg: Option<u32>) -> Option<u32>
     match arg {
         Some(object) => sig.ground_number(symbol, &[object]),
         None => None,
+    }
+}
+
+/// The number of the ground constant of a symbol with these arguments, where all of them stand for an object.
+#[tactic(auto, using(crate::proofs::Bare::arguments_same))]
+fn meant_with(
+    alloc: Global,
+    table: &Table,
+    sig: &Sig,
+    env: &Bindings,
+    symbol: u32,
+    terms: &[Term],
+) -> Result<Option<u32>, OutOfMemory>
+    ensures { IfOk result (λ found. found ≡ words.constant_meant (universe_of table.now sig.now)
+        (environment_of env.now) symbol (terms_of (map plain_term terms.now))) }
+{
+    let mut args = Vec::new(alloc);
+    match add_arguments(table, env, terms, &mut args) {
+        Ok(true) => Ok(sig.ground_number(symbol, &args)),
+        Ok(false) => Ok(None),
+        Err(error) => Err(error),
     }
 }
 
@@ -90,10 +109,7 @@ pub(crate) fn constant_meant(
 {
     match terms {
         [term] => Ok(meant_at(sig, symbol, argument(table, env, term)?)),
-        _ => match arguments(alloc, table, env, terms)? {
-            Some(args) => Ok(sig.ground_number(symbol, &args)),
-            None => Ok(None),
-        },
+        _ => meant_with(alloc, table, sig, env, symbol, terms),
     }
 }
 
@@ -173,8 +189,6 @@ pub(crate) fn term_side<'t>(
         Term::Object(object) => Ok(Side::Value(*object)),
         Term::Variable(variable) => Ok(value_side(env.value(*variable))),
         Term::Nothing => Ok(Side::Value(NONE)),
-        Term::Number(_) => sum_side(table, sig, env, term),
-        Term::Plus(..) => sum_side(table, sig, env, term),
-        Term::Minus(..) => sum_side(table, sig, env, term),
+        Term::Number(_) | Term::Plus(..) | Term::Minus(..) => sum_side(table, sig, env, term),
     }
 }

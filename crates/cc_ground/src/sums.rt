@@ -1,14 +1,16 @@
 //! Values of terms that have no constant, and the objects that they are.
-ghost use Rattle.std.specs.Prelude.{◌≡◌, ◌+◌, IfOk, option_and_then, option_map, position};
+ghost use Rattle.std.specs.Prelude.{◌≡◌, ◌+◌, IfOk, Some, option_and_then, option_map, position};
 ghost use Rattle.cc_defs.specs.Resolved.{plain_term};
-ghost use Rattle.cc_defs.specs.Satisfaction.{added, is_number, taken};
+ghost use Rattle.cc_defs.specs.Satisfaction.{Whole, is_number};
 ghost use Rattle.cc_defs.specs.Satisfaction as words;
 ghost use Rattle.cc_defs.specs.Signatures.{number_at};
 ghost use Rattle.cc_ground.specs.Bindings.{environment_of};
+ghost use Rattle.cc_ground.specs.Pieces.{joined};
 ghost use Rattle.cc_ground.specs.Views.{bare_universe, plain_value};
 
 use crate::bindings::Bindings;
 use crate::maker::narrow;
+use crate::outermost::is_minus;
 use crate::values::NONE;
 use cc_defs::{OutOfMemory, Term};
 use cc_sorts::Table;
@@ -29,26 +31,33 @@ pub(crate) fn sum_of(one: u64, other: u64) -> Result<u64, OutOfMemory>
     one.checked_add(other).ok_or(OutOfMemory)
 }
 
-fn add(first: Option<Value>, second: Option<Value>) -> Result<Option<Value>, OutOfMemory>
-    ensures { IfOk result (λ sum. option_map plain_value sum
-        ≡ added (option_map plain_value first) (option_map plain_value second)) }
+/// The whole number that the first two numbers are less the other two.
+fn whole_of(one: u64, more: u64, other: u64, another: u64) -> Result<Option<Value>, OutOfMemory>
+    ensures { IfOk result (λ whole.
+        option_map plain_value whole ≡ Some (Whole (one + more) (other + another))) }
 {
-    let (Some(Value::Whole(plus, minus)), Some(Value::Whole(other, another))) = (first, second)
-    else {
-        return Ok(None);
-    };
-    Ok(Some(Value::Whole(sum_of(plus, other)?, sum_of(minus, another)?)))
+    Ok(Some(Value::Whole(sum_of(one, more)?, sum_of(other, another)?)))
 }
 
-fn take(first: Option<Value>, second: Option<Value>) -> Result<Option<Value>, OutOfMemory>
-    ensures { IfOk result (λ left. option_map plain_value left
-        ≡ taken (option_map plain_value first) (option_map plain_value second)) }
+/// The sum of two values, or the first less the second, where both are whole numbers.
+fn join(
+    minus: bool,
+    first: Option<Value>,
+    second: Option<Value>,
+) -> Result<Option<Value>, OutOfMemory>
+    ensures { IfOk result (λ whole. option_map plain_value whole
+        ≡ joined minus (option_map plain_value first) (option_map plain_value second)) }
 {
-    let (Some(Value::Whole(plus, minus)), Some(Value::Whole(other, another))) = (first, second)
-    else {
-        return Ok(None);
-    };
-    Ok(Some(Value::Whole(sum_of(plus, another)?, sum_of(minus, other)?)))
+    match (first, second) {
+        (Some(Value::Whole(one, other)), Some(Value::Whole(more, another))) => {
+            if minus {
+                whole_of(one, another, other, more)
+            } else {
+                whole_of(one, more, other, another)
+            }
+        }
+        _ => Ok(None),
+    }
 }
 
 /// An object is its number where it is one.
@@ -87,14 +96,11 @@ pub(crate) fn given_value(
         Term::Variable(variable) => Ok(meant_if(table, env.value(*variable))),
         Term::Nothing => Ok(Some(Value::Thing(NONE))),
         Term::Number(number) => Ok(Some(Value::Whole(u64::from(*number), 0))),
-        Term::Plus(left, right) => add(
-            given_value(table, env, left)?,
-            given_value(table, env, right)?,
-        ),
-        Term::Minus(left, right) => take(
-            given_value(table, env, left)?,
-            given_value(table, env, right)?,
-        ),
+        Term::Plus(left, right) | Term::Minus(left, right) => {
+            let first = given_value(table, env, left)?;
+            let second = given_value(table, env, right)?;
+            join(is_minus(term), first, second)
+        }
     }
 }
 

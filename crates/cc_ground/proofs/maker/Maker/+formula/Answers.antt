@@ -1,62 +1,11 @@
 use Rattle.std.proofs.Common.{List, ℕ, IfErr, OnOk, [], ◌∷◌, length, refl, ap, subst, sym}
 use Rattle.cc_defs.specs.declared.node.Node.{Node}
 use Rattle.cc_defs.specs.Terms.{nothing, postfixes}
-use Rattle.cc_defs.specs.declared.node.Node.TheVariants as nodes
 use Rattle.cc_defs.specs.Resolved.{Formula, plain_formula}
-use Rattle.cc_defs.specs.Nodes.{nodes_of}
-use Rattle.cc_ground.specs.Bindings.{environment_of}
-use Rattle.cc_ground.specs.Views.{HasPut, LacksRoom, universe_in}
-use Rattle.cc_ground.proofs.Meant.{all_is, some_is}
-use Rattle.cc_ground.proofs.Putting.{behind, both_nodes, either_nodes, err_if, err_on, first_lacks, implies_nodes, nodes_in, not_nodes, one_lacks, same_nodes, then_lacks, then_put, two_lack, two_put, bracket_puts, bracket_lacks, bracket_lacks_last, count_is, instance_at, instance_lacks, instance_put, instances_begin, instances_done, instances_in, put_as, lacks_so}
+use Rattle.cc_ground.specs.Outermost.{joining_node}
+use Rattle.cc_ground.specs.Views.{HasPut, LacksRoom}
+use Rattle.cc_ground.proofs.Putting.{behind, err_if, err_on, first_lacks, implies_nodes, joined_nodes, comparison_nodes, lacks_so, nodes_in, not_nodes, one_lacks, put_as, then_lacks, then_put, two_lack, two_put, bracket_nodes, bracket_puts, bracket_lacks, bracket_lacks_last, count_is, instance_at, instance_lacks, instance_put, instances_begin, instances_done, instances_in}
 use Rattle.cc_ground.proofs.maker.Maker.+formula.Goals as goal
-
-pub put-returns-in_err-count-in-ForAll-clause-full : goal.put-returns-in_err-count-in-ForAll-clause-full
-put-returns-in_err-count-in-ForAll-clause-full t c =
-    let maker = c.args.self.now in
-    let inner = plain_formula c.deref-in-ForAll.result.now in
-    bracket_lacks _ (instances_in maker inner c.in-ForAll.variable c.in-ForAll.sort) _ c.in_err-count-in-ForAll.field-0.0 c.from_residual-in_err-count-in-ForAll.result
-    (ap (nodes_of (universe_in maker) (environment_of maker.env)) (all_is c.args.formula.now c.deref-in-ForAll.result.now c.in-ForAll.variable c.in-ForAll.sort c.in-ForAll.inner c.in-ForAll.is c.deref-in-ForAll.ensures))
-    c.from_residual-in_err-count-in-ForAll.ensures.1 c.in_err-count-in-ForAll.ensures.full
-
-pub put-returns-in_ok-count-in-ForAll-clause-put : goal.put-returns-in_ok-count-in-ForAll-clause-put
-put-returns-in_ok-count-in-ForAll-clause-put t c =
-    let maker = c.args.self.now in
-    let inner = plain_formula c.deref-in-ForAll.result.now in
-    bracket_puts nodes.All (instances_in maker inner c.in-ForAll.variable c.in-ForAll.sort) c.push-in-ForAll.new.self c.push-in-ForAll.result
-    (ap (nodes_of (universe_in maker) (environment_of maker.env)) (all_is c.args.formula.now c.deref-in-ForAll.result.now c.in-ForAll.variable c.in-ForAll.sort c.in-ForAll.inner c.in-ForAll.is c.deref-in-ForAll.ensures))
-    (count_is maker inner c.in-ForAll.variable c.in-ForAll.sort c.in_ok-count-in-ForAll.ensures.count) c.in_ok-count-in-ForAll.ensures.put c.push-in-ForAll.ensures.put
-
-pub put-returns-in_ok-count-in-ForAll-clause-full : goal.put-returns-in_ok-count-in-ForAll-clause-full
-put-returns-in_ok-count-in-ForAll-clause-full t c =
-    let maker = c.args.self.now in
-    let inner = plain_formula c.deref-in-ForAll.result.now in
-    bracket_lacks_last _ (instances_in maker inner c.in-ForAll.variable c.in-ForAll.sort) c.push-in-ForAll.result
-    (ap (nodes_of (universe_in maker) (environment_of maker.env)) (all_is c.args.formula.now c.deref-in-ForAll.result.now c.in-ForAll.variable c.in-ForAll.sort c.in-ForAll.inner c.in-ForAll.is c.deref-in-ForAll.ensures))
-    c.in_ok-count-in-ForAll.ensures.put c.push-in-ForAll.ensures.full
-
-pub put-returns-in_err-count-in-Exists-clause-full : goal.put-returns-in_err-count-in-Exists-clause-full
-put-returns-in_err-count-in-Exists-clause-full t c =
-    let maker = c.args.self.now in
-    let inner = plain_formula c.deref-in-Exists.result.now in
-    bracket_lacks _ (instances_in maker inner c.in-Exists.variable c.in-Exists.sort) _ c.in_err-count-in-Exists.field-0.0 c.from_residual-in_err-count-in-Exists.result
-    (ap (nodes_of (universe_in maker) (environment_of maker.env)) (some_is c.args.formula.now c.deref-in-Exists.result.now c.in-Exists.variable c.in-Exists.sort c.in-Exists.inner c.in-Exists.is c.deref-in-Exists.ensures))
-    c.from_residual-in_err-count-in-Exists.ensures.1 c.in_err-count-in-Exists.ensures.full
-
-pub put-returns-in_ok-count-in-Exists-clause-put : goal.put-returns-in_ok-count-in-Exists-clause-put
-put-returns-in_ok-count-in-Exists-clause-put t c =
-    let maker = c.args.self.now in
-    let inner = plain_formula c.deref-in-Exists.result.now in
-    bracket_puts nodes.Any (instances_in maker inner c.in-Exists.variable c.in-Exists.sort) c.push-in-Exists.new.self c.push-in-Exists.result
-    (ap (nodes_of (universe_in maker) (environment_of maker.env)) (some_is c.args.formula.now c.deref-in-Exists.result.now c.in-Exists.variable c.in-Exists.sort c.in-Exists.inner c.in-Exists.is c.deref-in-Exists.ensures))
-    (count_is maker inner c.in-Exists.variable c.in-Exists.sort c.in_ok-count-in-Exists.ensures.count) c.in_ok-count-in-Exists.ensures.put c.push-in-Exists.ensures.put
-
-pub put-returns-in_ok-count-in-Exists-clause-full : goal.put-returns-in_ok-count-in-Exists-clause-full
-put-returns-in_ok-count-in-Exists-clause-full t c =
-    let maker = c.args.self.now in
-    let inner = plain_formula c.deref-in-Exists.result.now in
-    bracket_lacks_last _ (instances_in maker inner c.in-Exists.variable c.in-Exists.sort) c.push-in-Exists.result
-    (ap (nodes_of (universe_in maker) (environment_of maker.env)) (some_is c.args.formula.now c.deref-in-Exists.result.now c.in-Exists.variable c.in-Exists.sort c.in-Exists.inner c.in-Exists.is c.deref-in-Exists.ensures))
-    c.in_ok-count-in-Exists.ensures.put c.push-in-Exists.ensures.full
 
 pub put_instances-loop-object-init : goal.put_instances-loop-object-init
 put_instances-loop-object-init t c = instances_begin _ _ _
@@ -93,41 +42,11 @@ pub put-returns-in-Not-clause-full : goal.put-returns-in-Not-clause-full
 put-returns-in-Not-clause-full t c =
     subst (λ (l : List Node). IfErr c.put_with.result (LacksRoom (length l) c.args.self.now.room)) (not_nodes c.args.self.now c.args.formula.now c.deref.result.now c.in-Not.inner c.in-Not.is c.deref.ensures) c.put_with.ensures.full
 
-pub put-returns-in_err-put-in-Both-clause-full : goal.put-returns-in_err-put-in-Both-clause-full
-put-returns-in_err-put-in-Both-clause-full t c = one_lacks c.in_err-put-in-Both.field-0.0 c.from_residual.result (both_nodes c.args.self.now c.args.formula.now c.deref-in-Both.result.now c.in-Both.right.value c.in-Both.left c.in-Both.right c.in-Both.is c.deref-in-Both.ensures refl) c.from_residual.ensures.1 c.in_err-put-in-Both.ensures.full
-
-pub put-returns-in_ok-put-in-Both-clause-put : goal.put-returns-in_ok-put-in-Both-clause-put
-put-returns-in_ok-put-in-Both-clause-put t c = two_put c.put_with-in-Both.new.self c.put_with-in-Both.result (both_nodes c.args.self.now c.args.formula.now c.deref-in-Both.result.now c.deref-in-Both-2.result.now c.in-Both.left c.in-Both.right c.in-Both.is c.deref-in-Both.ensures c.deref-in-Both-2.ensures) c.in_ok-put-in-Both.ensures.put c.put_with-in-Both.ensures.put
-
-pub put-returns-in_ok-put-in-Both-clause-full : goal.put-returns-in_ok-put-in-Both-clause-full
-put-returns-in_ok-put-in-Both-clause-full t c = two_lack c.put_with-in-Both.result (both_nodes c.args.self.now c.args.formula.now c.deref-in-Both.result.now c.deref-in-Both-2.result.now c.in-Both.left c.in-Both.right c.in-Both.is c.deref-in-Both.ensures c.deref-in-Both-2.ensures) c.in_ok-put-in-Both.ensures.put c.put_with-in-Both.ensures.full
-
-pub put-returns-in_err-put-in-Either-clause-full : goal.put-returns-in_err-put-in-Either-clause-full
-put-returns-in_err-put-in-Either-clause-full t c = one_lacks c.in_err-put-in-Either.field-0.0 c.from_residual-in_err-put-in-Either.result (either_nodes c.args.self.now c.args.formula.now c.deref-in-Either.result.now c.in-Either.right.value c.in-Either.left c.in-Either.right c.in-Either.is c.deref-in-Either.ensures refl) c.from_residual-in_err-put-in-Either.ensures.1 c.in_err-put-in-Either.ensures.full
-
-pub put-returns-in_ok-put-in-Either-clause-put : goal.put-returns-in_ok-put-in-Either-clause-put
-put-returns-in_ok-put-in-Either-clause-put t c = two_put c.put_with-in-Either.new.self c.put_with-in-Either.result (either_nodes c.args.self.now c.args.formula.now c.deref-in-Either.result.now c.deref-in-Either-2.result.now c.in-Either.left c.in-Either.right c.in-Either.is c.deref-in-Either.ensures c.deref-in-Either-2.ensures) c.in_ok-put-in-Either.ensures.put c.put_with-in-Either.ensures.put
-
-pub put-returns-in_ok-put-in-Either-clause-full : goal.put-returns-in_ok-put-in-Either-clause-full
-put-returns-in_ok-put-in-Either-clause-full t c = two_lack c.put_with-in-Either.result (either_nodes c.args.self.now c.args.formula.now c.deref-in-Either.result.now c.deref-in-Either-2.result.now c.in-Either.left c.in-Either.right c.in-Either.is c.deref-in-Either.ensures c.deref-in-Either-2.ensures) c.in_ok-put-in-Either.ensures.put c.put_with-in-Either.ensures.full
-
-pub put-returns-in_err-put_with-in-Implies-clause-full : goal.put-returns-in_err-put_with-in-Implies-clause-full
-put-returns-in_err-put_with-in-Implies-clause-full t c = one_lacks c.in_err-put_with-in-Implies.field-0.0 c.from_residual-in_err-put_with-in-Implies.result (implies_nodes c.args.self.now c.args.formula.now c.deref-in-Implies.result.now c.in-Implies.right.value c.in-Implies.left c.in-Implies.right c.in-Implies.is c.deref-in-Implies.ensures refl) c.from_residual-in_err-put_with-in-Implies.ensures.1 c.in_err-put_with-in-Implies.ensures.full
-
 pub put-returns-in_ok-put_with-in-Implies-clause-put : goal.put-returns-in_ok-put_with-in-Implies-clause-put
 put-returns-in_ok-put_with-in-Implies-clause-put t c = two_put c.put_with-in-Implies-2.new.self c.put_with-in-Implies-2.result (implies_nodes c.args.self.now c.args.formula.now c.deref-in-Implies.result.now c.deref-in-Implies-2.result.now c.in-Implies.left c.in-Implies.right c.in-Implies.is c.deref-in-Implies.ensures c.deref-in-Implies-2.ensures) c.in_ok-put_with-in-Implies.ensures.put c.put_with-in-Implies-2.ensures.put
 
 pub put-returns-in_ok-put_with-in-Implies-clause-full : goal.put-returns-in_ok-put_with-in-Implies-clause-full
 put-returns-in_ok-put_with-in-Implies-clause-full t c = two_lack c.put_with-in-Implies-2.result (implies_nodes c.args.self.now c.args.formula.now c.deref-in-Implies.result.now c.deref-in-Implies-2.result.now c.in-Implies.left c.in-Implies.right c.in-Implies.is c.deref-in-Implies.ensures c.deref-in-Implies-2.ensures) c.in_ok-put_with-in-Implies.ensures.put c.put_with-in-Implies-2.ensures.full
-
-pub put-returns-in_err-put-in-Same-clause-full : goal.put-returns-in_err-put-in-Same-clause-full
-put-returns-in_err-put-in-Same-clause-full t c = one_lacks c.in_err-put-in-Same.field-0.0 c.from_residual-in_err-put-in-Same.result (same_nodes c.args.self.now c.args.formula.now c.deref-in-Same.result.now c.in-Same.right.value c.in-Same.left c.in-Same.right c.in-Same.is c.deref-in-Same.ensures refl) c.from_residual-in_err-put-in-Same.ensures.1 c.in_err-put-in-Same.ensures.full
-
-pub put-returns-in_ok-put-in-Same-clause-put : goal.put-returns-in_ok-put-in-Same-clause-put
-put-returns-in_ok-put-in-Same-clause-put t c = two_put c.put_with-in-Same.new.self c.put_with-in-Same.result (same_nodes c.args.self.now c.args.formula.now c.deref-in-Same.result.now c.deref-in-Same-2.result.now c.in-Same.left c.in-Same.right c.in-Same.is c.deref-in-Same.ensures c.deref-in-Same-2.ensures) c.in_ok-put-in-Same.ensures.put c.put_with-in-Same.ensures.put
-
-pub put-returns-in_ok-put-in-Same-clause-full : goal.put-returns-in_ok-put-in-Same-clause-full
-put-returns-in_ok-put-in-Same-clause-full t c = two_lack c.put_with-in-Same.result (same_nodes c.args.self.now c.args.formula.now c.deref-in-Same.result.now c.deref-in-Same-2.result.now c.in-Same.left c.in-Same.right c.in-Same.is c.deref-in-Same.ensures c.deref-in-Same-2.ensures) c.in_ok-put-in-Same.ensures.put c.put_with-in-Same.ensures.full
 
 pub put-returns-in-True-clause-put : goal.put-returns-in-True-clause-put
 put-returns-in-True-clause-put t c = subst (λ (f : Formula). OnOk c.push.result (HasPut (nodes_in c.args.self.now f) c.args.self.now c.push.new.self)) (sym (ap plain_formula c.in-True.is)) c.push.ensures.put
@@ -146,36 +65,6 @@ put-returns-in-Equal-clause-put t c = subst (λ (f : Formula). OnOk c.put_equal.
 
 pub put-returns-in-Equal-clause-full : goal.put-returns-in-Equal-clause-full
 put-returns-in-Equal-clause-full t c = subst (λ (f : Formula). IfErr c.put_equal.result (LacksRoom (length (nodes_in c.args.self.now f)) c.args.self.now.room)) (sym (ap plain_formula c.in-Equal.is)) c.put_equal.ensures.full
-
-pub put-returns-in-Less-clause-put : goal.put-returns-in-Less-clause-put
-put-returns-in-Less-clause-put t c = subst (λ (f : Formula). OnOk c.put_judged.result (HasPut (nodes_in c.args.self.now f) c.args.self.now c.put_judged.new.self)) (sym (ap plain_formula c.in-Less.is)) c.put_judged.ensures.put
-
-pub put-returns-in-Less-clause-full : goal.put-returns-in-Less-clause-full
-put-returns-in-Less-clause-full t c = subst (λ (f : Formula). IfErr c.put_judged.result (LacksRoom (length (nodes_in c.args.self.now f)) c.args.self.now.room)) (sym (ap plain_formula c.in-Less.is)) c.put_judged.ensures.full
-
-pub put-returns-in-AtMost-clause-put : goal.put-returns-in-AtMost-clause-put
-put-returns-in-AtMost-clause-put t c = subst (λ (f : Formula). OnOk c.put_judged-in-AtMost.result (HasPut (nodes_in c.args.self.now f) c.args.self.now c.put_judged-in-AtMost.new.self)) (sym (ap plain_formula c.in-AtMost.is)) c.put_judged-in-AtMost.ensures.put
-
-pub put-returns-in-AtMost-clause-full : goal.put-returns-in-AtMost-clause-full
-put-returns-in-AtMost-clause-full t c = subst (λ (f : Formula). IfErr c.put_judged-in-AtMost.result (LacksRoom (length (nodes_in c.args.self.now f)) c.args.self.now.room)) (sym (ap plain_formula c.in-AtMost.is)) c.put_judged-in-AtMost.ensures.full
-
-pub put-returns-in_err-put-in-Both-clause-put : goal.put-returns-in_err-put-in-Both-clause-put
-put-returns-in_err-put-in-Both-clause-put t c = err_on _ c.from_residual.result c.from_residual.ensures.0
-
-pub put-returns-in_err-put-in-Either-clause-put : goal.put-returns-in_err-put-in-Either-clause-put
-put-returns-in_err-put-in-Either-clause-put t c = err_on _ c.from_residual-in_err-put-in-Either.result c.from_residual-in_err-put-in-Either.ensures.0
-
-pub put-returns-in_err-put_with-in-Implies-clause-put : goal.put-returns-in_err-put_with-in-Implies-clause-put
-put-returns-in_err-put_with-in-Implies-clause-put t c = err_on _ c.from_residual-in_err-put_with-in-Implies.result c.from_residual-in_err-put_with-in-Implies.ensures.0
-
-pub put-returns-in_err-put-in-Same-clause-put : goal.put-returns-in_err-put-in-Same-clause-put
-put-returns-in_err-put-in-Same-clause-put t c = err_on _ c.from_residual-in_err-put-in-Same.result c.from_residual-in_err-put-in-Same.ensures.0
-
-pub put-returns-in_err-count-in-ForAll-clause-put : goal.put-returns-in_err-count-in-ForAll-clause-put
-put-returns-in_err-count-in-ForAll-clause-put t c = err_on _ c.from_residual-in_err-count-in-ForAll.result c.from_residual-in_err-count-in-ForAll.ensures.0
-
-pub put-returns-in_err-count-in-Exists-clause-put : goal.put-returns-in_err-count-in-Exists-clause-put
-put-returns-in_err-count-in-Exists-clause-put t c = err_on _ c.from_residual-in_err-count-in-Exists.result c.from_residual-in_err-count-in-Exists.ensures.0
 
 pub put_with-returns-in_err-put-clause-put : goal.put_with-returns-in_err-put-clause-put
 put_with-returns-in_err-put-clause-put t c = err_on _ c.from_residual.result c.from_residual.ensures.0
@@ -201,3 +90,65 @@ put_instances-returns-in_err-narrow-clause-count t c = err_if _ c.from_residual-
 pub put_instances-returns-clause-put : goal.put_instances-returns-clause-put
 put_instances-returns-clause-put t c =
     put_as (ap (λ (l : List ℕ). postfixes (behind (instance_at c.args.self.now (plain_formula c.args.formula.now) c.args.variable) nothing l)) c.objects_of-objects.ensures) (instances_done c.loop-object.invariant c.loop-object-test.false)
+
+pub put-returns-in-Less-clause-put : goal.put-returns-in-Less-clause-put
+put-returns-in-Less-clause-put t c =
+    subst (λ (l : List Node). OnOk c.put_judged.result (HasPut l c.args.self.now c.put_judged.new.self)) (comparison_nodes c.args.self.now c.args.formula.now c.sign_in.result c.in-Less.left c.in-Less.right c.in-Less.is c.sign_in.ensures)
+    c.put_judged.ensures.put
+
+pub put-returns-in-Less-clause-full : goal.put-returns-in-Less-clause-full
+put-returns-in-Less-clause-full t c =
+    subst (λ (l : List Node). IfErr c.put_judged.result (LacksRoom (length l) c.args.self.now.room)) (comparison_nodes c.args.self.now c.args.formula.now c.sign_in.result c.in-Less.left c.in-Less.right c.in-Less.is c.sign_in.ensures)
+    c.put_judged.ensures.full
+
+pub put-returns-in_err-put_with-in-Implies-clause-put : goal.put-returns-in_err-put_with-in-Implies-clause-put
+put-returns-in_err-put_with-in-Implies-clause-put t c = err_on _ c.from_residual.result c.from_residual.ensures.0
+
+pub put-returns-in_err-put_with-in-Implies-clause-full : goal.put-returns-in_err-put_with-in-Implies-clause-full
+put-returns-in_err-put_with-in-Implies-clause-full t c = one_lacks c.in_err-put_with-in-Implies.field-0.0 c.from_residual.result (implies_nodes c.args.self.now c.args.formula.now c.deref-in-Implies.result.now c.in-Implies.right.value c.in-Implies.left c.in-Implies.right c.in-Implies.is c.deref-in-Implies.ensures refl) c.from_residual.ensures.1 c.in_err-put_with-in-Implies.ensures.full
+
+pub put-returns-in_err-put-in-Both-clause-put : goal.put-returns-in_err-put-in-Both-clause-put
+put-returns-in_err-put-in-Both-clause-put t c = err_on _ c.from_residual-in_err-put-in-Both.result c.from_residual-in_err-put-in-Both.ensures.0
+
+pub put-returns-in_err-put-in-Both-clause-full : goal.put-returns-in_err-put-in-Both-clause-full
+put-returns-in_err-put-in-Both-clause-full t c =
+    one_lacks c.in_err-put-in-Both.field-0.0 c.from_residual-in_err-put-in-Both.result
+    (joined_nodes c.args.self.now c.args.formula.now c.deref-in-Both.result.now c.in-Both.right.value c.in-Both.left c.in-Both.right (joining_node (plain_formula c.args.formula.now) 2) c.in-Both.is refl c.deref-in-Both.ensures refl)
+    c.from_residual-in_err-put-in-Both.ensures.1 c.in_err-put-in-Both.ensures.full
+
+pub put-returns-in_ok-put-in-Both-clause-put : goal.put-returns-in_ok-put-in-Both-clause-put
+put-returns-in_ok-put-in-Both-clause-put t c =
+    two_put c.put_with-in-Both.new.self c.put_with-in-Both.result
+    (joined_nodes c.args.self.now c.args.formula.now c.deref-in-Both.result.now c.deref-in-Both-2.result.now c.in-Both.left c.in-Both.right c.joining_node-in-Both.result c.in-Both.is c.joining_node-in-Both.ensures c.deref-in-Both.ensures c.deref-in-Both-2.ensures)
+    c.in_ok-put-in-Both.ensures.put c.put_with-in-Both.ensures.put
+
+pub put-returns-in_ok-put-in-Both-clause-full : goal.put-returns-in_ok-put-in-Both-clause-full
+put-returns-in_ok-put-in-Both-clause-full t c =
+    two_lack c.put_with-in-Both.result
+    (joined_nodes c.args.self.now c.args.formula.now c.deref-in-Both.result.now c.deref-in-Both-2.result.now c.in-Both.left c.in-Both.right c.joining_node-in-Both.result c.in-Both.is c.joining_node-in-Both.ensures c.deref-in-Both.ensures c.deref-in-Both-2.ensures)
+    c.in_ok-put-in-Both.ensures.put c.put_with-in-Both.ensures.full
+
+pub put-returns-in_err-count-in-ForAll-clause-put : goal.put-returns-in_err-count-in-ForAll-clause-put
+put-returns-in_err-count-in-ForAll-clause-put t c = err_on _ c.from_residual-in_err-count-in-ForAll.result c.from_residual-in_err-count-in-ForAll.ensures.0
+
+pub put-returns-in_err-count-in-ForAll-clause-full : goal.put-returns-in_err-count-in-ForAll-clause-full
+put-returns-in_err-count-in-ForAll-clause-full t c =
+    let maker = c.args.self.now in
+    bracket_lacks _ (instances_in maker (plain_formula c.deref-in-ForAll.result.now) c.in-ForAll.variable c.in-ForAll.sort) _ c.in_err-count-in-ForAll.field-0.0 c.from_residual-in_err-count-in-ForAll.result
+    (bracket_nodes maker c.args.formula.now c.deref-in-ForAll.result.now c.in-ForAll.variable c.in-ForAll.sort c.in-ForAll.inner c.in-ForAll.is c.deref-in-ForAll.ensures)
+    c.from_residual-in_err-count-in-ForAll.ensures.1 c.in_err-count-in-ForAll.ensures.full
+
+pub put-returns-in_ok-count-in-ForAll-clause-put : goal.put-returns-in_ok-count-in-ForAll-clause-put
+put-returns-in_ok-count-in-ForAll-clause-put t c =
+    let maker = c.args.self.now in
+    let inner = plain_formula c.deref-in-ForAll.result.now in
+    bracket_puts (joining_node (plain_formula c.args.formula.now)) (instances_in maker inner c.in-ForAll.variable c.in-ForAll.sort) c.push-in-ForAll.new.self c.push-in-ForAll.result
+    (bracket_nodes maker c.args.formula.now c.deref-in-ForAll.result.now c.in-ForAll.variable c.in-ForAll.sort c.in-ForAll.inner c.in-ForAll.is c.deref-in-ForAll.ensures)
+    c.joining_node.ensures (count_is maker inner c.in-ForAll.variable c.in-ForAll.sort c.in_ok-count-in-ForAll.ensures.count) c.in_ok-count-in-ForAll.ensures.put c.push-in-ForAll.ensures.put
+
+pub put-returns-in_ok-count-in-ForAll-clause-full : goal.put-returns-in_ok-count-in-ForAll-clause-full
+put-returns-in_ok-count-in-ForAll-clause-full t c =
+    let maker = c.args.self.now in
+    bracket_lacks_last _ (instances_in maker (plain_formula c.deref-in-ForAll.result.now) c.in-ForAll.variable c.in-ForAll.sort) c.push-in-ForAll.result
+    (bracket_nodes maker c.args.formula.now c.deref-in-ForAll.result.now c.in-ForAll.variable c.in-ForAll.sort c.in-ForAll.inner c.in-ForAll.is c.deref-in-ForAll.ensures)
+    c.in_ok-count-in-ForAll.ensures.put c.push-in-ForAll.ensures.full

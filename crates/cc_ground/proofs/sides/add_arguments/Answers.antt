@@ -1,7 +1,7 @@
 use Rattle.cc_ground.specs.Bindings.{environment_of}
 use Rattle.cc_ground.specs.Views.{bare_universe}
 use Rattle.cc_ground.proofs.Meant.{args_end, args_more, args_none}
-use Rattle.cc_ground.proofs.sides.arguments.Goals as goal
+use Rattle.cc_ground.proofs.sides.add_arguments.Goals as goal
 
 pub returns-in_default : goal.returns-in_default
 returns-in_default c = args_none (bare_universe c.args.table.now) (environment_of c.args.env.now) c.args.terms.now c.loop-term.term-index c.loop-term.args.items c.term-item.result c.in_ok-object.field-0 c.loop-term-test.true c.term-item.is c.in_ok-object.ensures c.in_default.is c.loop-term.invariant

@@ -3,7 +3,7 @@ use Rattle.cc_defs.specs.Resolved.{plain_term, terms_of}
 use Rattle.cc_defs.specs.Satisfaction as words
 use Rattle.cc_ground.specs.Bindings.{environment_of}
 use Rattle.cc_ground.specs.Views.{bare_universe}
-use Rattle.cc_ground.proofs.sides.arguments.Given as goal
+use Rattle.cc_ground.proofs.sides.add_arguments.Given as goal
 
 abbrev pub invariant-loop-term : goal.invariant-loop-term
 invariant-loop-term l =
