@@ -53,7 +53,7 @@ within_then {X} {B} {P} made (Ok x) writer is p b keeps few then =
     then x (subst (λ (r : Result X Fault). IfOk r P) is p) (subst (λ (r : Result X Fault). OnOk r B) is b) (λ clauses holds. (keeps clauses holds, few clauses holds))
 within_then made (Err fault) writer is p b keeps few then = tt
 
-past_refused : (axioms : Axioms) (fault : Fault) → IsPast axioms.variables fault → IsRefusedBy (axioms_refusal axioms) fault
+pub past_refused : (axioms : Axioms) (fault : Fault) → IsPast axioms.variables fault → IsRefusedBy (axioms_refusal axioms) fault
 past_refused axioms (faults.Refused refusal) past = rw (lt-ltb 4000000 axioms.variables past.1) (ap Some (sym past.0))
 past_refused axioms faults.OutOfMemory past = tt
 

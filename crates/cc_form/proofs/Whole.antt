@@ -92,10 +92,9 @@ literal_extends old new seen literal f term is same written over truth literal_i
 
 -- ---- the first clauses are too many
 
-pub first_refused : {T : Type 0} (result : Result T Fault) (fault : Fault) (sizes : List ℕ) → IsErrAnd result (λ given. given ≡ fault) → true_variable sizes ≤ 4000000 → IsRefusedBy (count_refusal (first_clauses sizes ++ [])) fault →
-    IfErr result (IsRefusedBy (axioms_refusal (axioms_behind sizes (record { last = true_variable sizes; clauses = [] }))))
-first_refused (Ok x) fault sizes is few refused = tt
-first_refused (Err given) fault sizes is few refused = subst (IsRefusedBy (axioms_refusal (axioms_behind sizes (record { last = true_variable sizes; clauses = [] })))) (sym is) (rw (le-ltb 4000000 (true_variable sizes) few) refused)
+pub first_refused : (fault : Fault) (sizes : List ℕ) → true_variable sizes ≤ 4000000 → IsRefusedBy (count_refusal (first_clauses sizes ++ [])) fault →
+    IsRefusedBy (axioms_refusal (axioms_behind sizes (record { last = true_variable sizes; clauses = [] }))) fault
+first_refused fault sizes few refused = rw (le-ltb 4000000 (true_variable sizes) few) refused
 
 abbrev axioms_with : List ℕ → ℕ → List (List Literal) → Axioms
 axioms_with sizes variables clauses = record { sizes = sizes; variables = variables; clauses = clauses }

@@ -6,12 +6,12 @@ ghost use Rattle.cc_defs.specs.Clauses.{IsLiteralOver};
 ghost use Rattle.cc_defs.specs.Refusals.{IsRefusedBy};
 ghost use Rattle.cc_defs.specs.declared.refusal.Fault.TheVariants as faults;
 ghost use Rattle.cc_defs.specs.Terms.{Ground, IsTermOver, postfix, truth};
-ghost use Rattle.cc_form.specs.Drafts.{Extends, axioms_refusal, clause_behind, nodes_behind};
+ghost use Rattle.cc_form.specs.Drafts.{Extends, IsDraft, axioms_refusal, clause_behind, nodes_behind};
 ghost use Rattle.cc_form.specs.Machine.{made_nodes, moved_nodes};
 ghost use Rattle.cc_form.specs.Parts.{axioms_behind};
 
 use crate::defining::write_all;
-use crate::draft::{emptied, write_first};
+use crate::draft::{Draft, emptied};
 use crate::form::{Form, form_of_whole};
 use crate::writer::Writer;
 use cc_defs::{Fault, Lit, Node, OutOfMemory};
@@ -51,6 +51,24 @@ fn fault_of(written: Result<(), OutOfMemory>) -> Result<(), Fault>
     Ok(())
 }
 
+/// The list of a draft that has the first clauses alone, where it is within its limits.
+fn begun(alloc: Global, draft: Draft, sizes: &[u32]) -> Result<Builder, Fault>
+    requires { IsDraft
+        sizes.now draft (record { last = true_variable sizes.now; clauses = [] }) }
+    ensures built { IfOk result (λ builder. builder
+        ≡ axioms_behind sizes.now (record { last = true_variable sizes.now; clauses = [] })) }
+    ensures within { OnOk result (axioms_refusal (axioms_behind sizes.now
+        (record { last = true_variable sizes.now; clauses = [] })) ≡ None) }
+    ensures refused { IfErr result (IsRefusedBy (axioms_refusal
+        (axioms_behind sizes.now (record { last = true_variable sizes.now; clauses = [] })))) }
+{
+    let writer = draft.into_writer();
+    match writer.fits() {
+        Ok(()) => Ok(Builder { writer, alloc }),
+        Err(fault) => Err(fault),
+    }
+}
+
 impl Builder {
     /// A list over positions with so many values each. Refuses, in this order, more than 4,000,000 variables, 8,000,000
     /// clauses and 40,000,000 literals (14, with the limit), as each call does that puts something behind.
@@ -63,10 +81,10 @@ impl Builder {
             (axioms_behind sizes.now (record { last = true_variable sizes.now; clauses = [] })))) }
     {
         let own = Vec::from_slice(alloc, sizes)?;
-        let mut writer = Writer::new(alloc, own)?;
-        write_first(&mut writer)?;
-        writer.fits()?;
-        Ok(Builder { writer, alloc })
+        match Draft::new(alloc, own) {
+            Ok(draft) => begun(alloc, draft, sizes),
+            Err(fault) => Err(fault),
+        }
     }
 
     /// The literal of a term, whose constants stand so many positions behind their numbers. Each conjunction, disjunction and

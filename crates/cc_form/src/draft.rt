@@ -85,6 +85,14 @@ impl Draft {
         Ok(Draft { writer, alloc })
     }
 
+    /// The writer, with what was put behind.
+    pub(crate) fn into_writer(self) -> Writer
+        ensures { result ≡ self }
+    {
+        let Draft { writer, .. } = self;
+        writer
+    }
+
     /// The literal of a term, whose constants stand so many positions behind their numbers. Each conjunction, disjunction and
     /// equivalence gets a variable of its own, and its clauses come behind the others. Refuses more than 4,000,000 variables
     /// (14).

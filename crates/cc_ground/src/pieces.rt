@@ -9,6 +9,7 @@ ghost use Rattle.cc_ground.specs.Pieces.{constant_piece, gathered, number_piece 
 ghost use Rattle.cc_ground.specs.Views.{universe_of};
 
 use crate::bindings::Bindings;
+use crate::outermost::is_minus;
 use crate::sides::constant_meant;
 use cc_defs::{OutOfMemory, Sig, Term};
 use cc_sorts::Table;
@@ -230,13 +231,17 @@ fn add_pieces(
         }
         Term::Nothing => add_piece(pieces, minus, Piece::Nothing),
         Term::Number(number) => add_piece(pieces, minus, Piece::Number(*number)),
-        Term::Plus(left, right) => {
+        Term::Plus(left, right) | Term::Minus(left, right) => {
             add_pieces(alloc, table, sig, env, minus, left, pieces)?;
-            add_pieces(alloc, table, sig, env, minus, right, pieces)
-        }
-        Term::Minus(left, right) => {
-            add_pieces(alloc, table, sig, env, minus, left, pieces)?;
-            add_pieces(alloc, table, sig, env, !minus, right, pieces)
+            add_pieces(
+                alloc,
+                table,
+                sig,
+                env,
+                minus != is_minus(term),
+                right,
+                pieces,
+            )
         }
     }
 }
