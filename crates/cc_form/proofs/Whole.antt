@@ -1,5 +1,5 @@
 -- Writers all of whose clauses are kept.
-use Rattle.std.proofs.Common.{IfErr, IsErrAnd, Result, Ok, Err, ◌≡◌, ◌∙◌, ℕ, ◌≤◌, List, [], ◌∷◌, ◌++◌, sym, ap, subst, arith}
+use Rattle.std.proofs.Common.{◌≡◌, ◌∙◌, ℕ, ◌≤◌, List, [], ◌∷◌, ◌++◌, sym, ap, subst, arith}
 use Rattle.std.specs.List.{AllByRecursion, Contains}
 use Rattle.std.proofs.lemmas.Bool.{le-ltb}
 use Rattle.cc_defs.specs.declared.node.Node.{Node}

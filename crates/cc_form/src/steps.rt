@@ -232,8 +232,21 @@ fn three_ruled(
     begin(alloc, writer, sig, laws, literals)?;
     let first = go_on(alloc, writer, sig, laws, 0, literals)?;
     let own = writer.last - start;
-    let later = go_on(alloc, writer, sig, laws, 1, literals)?;
-    let last = go_on(alloc, writer, sig, laws, 2, literals)?;
+    let later = match go_on(alloc, writer, sig, laws, 1, literals) {
+        Ok(later) => later,
+        Err(fault) => {
+            drop(first);
+            return Err(fault);
+        }
+    };
+    let last = match go_on(alloc, writer, sig, laws, 2, literals) {
+        Ok(last) => last,
+        Err(fault) => {
+            drop(first);
+            drop(later);
+            return Err(fault);
+        }
+    };
     Ok(ThreeRuled {
         first,
         later,

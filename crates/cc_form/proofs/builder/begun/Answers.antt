@@ -1,4 +1,4 @@
-use Rattle.std.proofs.Common.{◌++◌, List, [], ℕ, refl, subst, sym}
+use Rattle.std.proofs.Common.{◌++◌, [], refl, subst, sym}
 use Rattle.cc_defs.specs.ClauseForms.{true_variable}
 use Rattle.cc_defs.specs.ClauseLists.{Asserted}
 use Rattle.cc_form.specs.declared.writer.Writer.{Writer}
