@@ -1,12 +1,12 @@
 //! Equations with sums, and comparisons: judged by their truth under each list of values of their constants.
-ghost use Rattle.std.specs.Prelude.{◌≡◌, ◌+◌, ◌++◌, [], true, IfErr, IfOk, OnOk, Some, is_some, length, option_and_then, slice_get};
-ghost use Rattle.cc_defs.specs.Judged.{all_meant, chosen as chosen_in, constants_of, judged, size_of as size_in, those_meant, truth_of};
+ghost use Rattle.std.specs.Prelude.{◌≡◌, ◌+◌, ◌++◌, IfErr, IfOk, OnOk, Some, length, option_and_then, slice_get};
+ghost use Rattle.cc_defs.specs.Judged.{chosen as chosen_in, constants_of, judged, size_of as size_in, truth_of};
 ghost use Rattle.cc_defs.specs.Resolved.{Term as PlainTerm, plain_term};
 ghost use Rattle.cc_defs.specs.Satisfaction.{Environment, Whole};
 ghost use Rattle.cc_defs.specs.Signatures.{ground_constants, number_at};
 ghost use Rattle.cc_defs.specs.Terms.{postfix};
 ghost use Rattle.cc_ground.specs.Bindings.{environment_of};
-ghost use Rattle.cc_ground.specs.Pieces.{IsJudged, IsOfPieces, atom_nodes, count_behind, formula_of, gathered, holds_at, joined, list_count, list_nodes, nodes_behind, nodes_over, number_in, stands, universe_at};
+ghost use Rattle.cc_ground.specs.Pieces.{IsJudged, IsOfPieces, atom_nodes, count_behind, formula_of, holds_at, joined, list_count, list_nodes, nodes_behind, nodes_over, number_in, stands, universe_at};
 ghost use Rattle.cc_ground.specs.Views.{HasPut, LacksRoom, universe_in, universe_of};
 
 use crate::maker::{Halt, Maker, narrow};
@@ -228,10 +228,8 @@ impl<'t> Maker<'t> {
             return self.put_truth(holds(equation, &[])?);
         }
         let mut indexes = Vec::new(alloc);
-        match self.put_lists(equation, &mut indexes, equation.constants) {
-            Ok(count) => self.push(Node::Any(count)),
-            Err(halt) => Err(halt),
-        }
+        let count = self.put_lists(equation, &mut indexes, equation.constants)?;
+        self.push(Node::Any(count))
     }
 
     /// An equation with a sum, or a comparison, of these pieces, and with these different constants, all of which are there.
@@ -259,45 +257,6 @@ impl<'t> Maker<'t> {
             constants,
         };
         self.put_all_lists(alloc, &equation)
-    }
-
-    /// An equation with a sum, or a comparison, with these different constants, all of which are there.
-    fn put_between(
-        &mut self,
-        alloc: Global,
-        sign: Sign,
-        left: &Term,
-        right: &Term,
-        constants: &[u32],
-    ) -> Result<(), Halt>
-        requires judged { IsJudged sign (plain_term left.now) (plain_term right.now) }
-        requires constants { constants.now
-            ≡ gathered [] (those_meant (universe_in self.now) (environment_of self.now.env)
-            (constants_of (plain_term left.now) ++ constants_of (plain_term right.now))) }
-        requires there { is_some (all_meant (universe_in self.now) (environment_of self.now.env)
-            (constants_of (plain_term left.now) ++ constants_of (plain_term right.now))) ≡ true }
-        ensures put { OnOk result
-            (HasPut (postfix (judged (universe_in self.old) (environment_of self.old.env)
-            (formula_of sign (plain_term left.now) (plain_term right.now)) (constants_of
-            (plain_term left.now) ++ constants_of (plain_term right.now)))) self.old self.new) }
-        ensures full { IfErr result (LacksRoom (length (postfix (judged
-            (universe_in self.old) (environment_of self.old.env)
-            (formula_of sign (plain_term left.now) (plain_term right.now)) (constants_of
-            (plain_term left.now) ++ constants_of (plain_term right.now))))) self.old.room) }
-    {
-        let mut pieces = Vec::new(alloc);
-        match add_both(
-            alloc,
-            self.table,
-            self.sig,
-            &self.env,
-            left,
-            right,
-            &mut pieces,
-        ) {
-            Ok(()) => self.put_pieces(alloc, sign, &pieces, constants),
-            Err(OutOfMemory) => Err(Halt::OutOfMemory),
-        }
     }
 
     /// An equation with a sum, or a comparison. It is false where one of its constants is not there.
@@ -331,6 +290,16 @@ impl<'t> Maker<'t> {
         if !there {
             return self.push(Node::False);
         }
-        self.put_between(alloc, sign, left, right, &constants)
+        let mut pieces = Vec::new(alloc);
+        add_both(
+            alloc,
+            self.table,
+            self.sig,
+            &self.env,
+            left,
+            right,
+            &mut pieces,
+        )?;
+        self.put_pieces(alloc, sign, &pieces, &constants)
     }
 }
