@@ -25,13 +25,7 @@ use Rattle.cc_laws.specs.Laws.{HasFormulas, HasStep, HasSteps, StepsFit}
 use Rattle.cc_laws.specs.Questions.{steps_refusal}
 use Rattle.cc_sorts.specs.Tables.{IsSignatureOf, IsTable, TableView, placed_of}
 use Rattle.cc_theory.specs.Theories.{AreLawsFor, AreLawsOf}
-use Rattle.cc_rivals.specs.Wides.{AreWideLawsFor, AreWideLawsOf}
-use Rattle.cc_wide.specs.declared.ground.WideGroundLaw.{WideGroundLaw}
-use Rattle.cc_wide.specs.WideForms.{AreWideGroundLaws}
-use Rattle.cc_wide.specs.WideGrounds.{plain_wide_ground, wide_ground_of}
-use Rattle.cc_wide.specs.WideLaws.{WideBase, WideDescription}
-use Rattle.cc_wide.specs.WideRules.{wide_instances_from}
-use Rattle.cc_asked.specs.Descriptions.{description_of, ground_refusal, ground_refusal_of, wide_description_of}
+use Rattle.cc_asked.specs.Descriptions.{description_of, ground_refusal, ground_refusal_of}
 use Rattle.cc_ground.specs.Counting.{query_refusal}
 
 pub laws_fit : (signature : Signature) (declarations : List Declaration) (laws : List GroundLaw) → IsSignatureOf declarations signature →
@@ -48,25 +42,6 @@ laws_fit signature declarations laws of values fit = record {
 pub laws_are : (signature : Signature) (declarations : List Declaration) (base : List BaseLaw) (laws : List GroundLaw) (d : Description) →
     d ≡ description_of declarations base → IsSignatureOf declarations signature → plain_ground_laws laws ≡ ground_laws (universe declarations) base → AreLawsOf signature laws d
 laws_are signature declarations base laws d is of made = subst (λ x. AreLawsOf signature laws x) (sym is) (record {
-  signature_is = record { fluents = ap (λ s. s.fluents) of.1; actions = ap (λ s. s.actions) of.1; numbers = ap (λ s. s.numbers) of.1 };
-  laws_are = made;
-})
-
-pub wide_laws_fit : (signature : Signature) (declarations : List Declaration) (laws : List WideGroundLaw) → IsSignatureOf declarations signature →
-    HaveOwnValues (universe declarations) → AreWideGroundLaws (universe declarations) (map plain_wide_ground laws) → AreWideLawsFor signature laws
-wide_laws_fit signature declarations laws of values fit = record {
-  u = universe declarations;
-  fluents = sym (ap (λ s. s.fluents) of.1);
-  actions = sym (ap (λ s. s.actions) of.1);
-  numbers = sym (ap (λ s. s.numbers) of.1);
-  values = values;
-  laws_fit = fit;
-}
-
-pub wide_laws_are : (signature : Signature) (declarations : List Declaration) (base : List WideBase) (laws : List WideGroundLaw) (w : WideDescription) →
-    w ≡ wide_description_of declarations base → IsSignatureOf declarations signature →
-    map plain_wide_ground laws ≡ map (wide_ground_of (universe declarations)) (wide_instances_from (universe declarations) 0 base) → AreWideLawsOf signature laws w
-wide_laws_are signature declarations base laws w is of made = subst (λ x. AreWideLawsOf signature laws x) (sym is) (record {
   signature_is = record { fluents = ap (λ s. s.fluents) of.1; actions = ap (λ s. s.actions) of.1; numbers = ap (λ s. s.numbers) of.1 };
   laws_are = made;
 })

@@ -4,8 +4,6 @@
 
 mod laws;
 mod queries;
-mod wide_laws;
 
 pub use laws::laws_of;
 pub use queries::query_of;
-pub use wide_laws::wide_laws_of;

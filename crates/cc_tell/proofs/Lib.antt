@@ -1,8 +1,6 @@
 pub mod Calls
-pub mod CauseLines
 pub mod GivenSteps
 pub mod LineSteps
 pub mod LogsBegun
 pub mod OwnNumbers
 pub mod SummedTexts
-pub mod SureLines

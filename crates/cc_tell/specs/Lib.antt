@@ -1,15 +1,10 @@
-pub mod CauseTexts
 pub mod Codes
 pub mod ErrLines
 pub mod EventTexts
-pub mod GeneralTexts
 pub mod Givens
 pub mod Manners
-pub mod ModelTexts
 pub mod Names
-pub mod SilentVerdicts
 pub mod Statuses
 pub mod Steps
 pub mod StopLines
-pub mod SureTexts
 pub mod Tellers

@@ -28,11 +28,7 @@ pub fn give<D: Desk>(desk: &mut D, to: To, bytes: &[u8]) -> Result<(), Stop>
 }
 
 /// Gives a text that was made to an output.
-pub(crate) fn give_made<D: Desk>(
-    desk: &mut D,
-    to: To,
-    made: Result<Text, OutOfMemory>,
-) -> Result<(), Stop>
+pub fn give_made<D: Desk>(desk: &mut D, to: To, made: Result<Text, OutOfMemory>) -> Result<(), Stop>
     ensures { (text : List ℕ) → IfOk made (λ given. given ≡ text) →
         Step (given_to to text) (D.seen desk.old) (D.seen desk.new) result }
 {

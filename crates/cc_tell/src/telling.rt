@@ -87,7 +87,7 @@ pub(crate) fn give_made_lines<D: Desk>(
 }
 
 /// Gives a history and its key to Out.
-pub(crate) fn tell_row<D: Desk>(
+pub fn tell_row<D: Desk>(
     alloc: Global,
     desk: &mut D,
     table: &Table,
@@ -116,7 +116,7 @@ fn tell_key<D: Desk>(alloc: Global, desk: &mut D, horizon: u32, row: &[u32]) -> 
 }
 
 /// Gives the line of an event to Out.
-pub(crate) fn tell_event<D: Desk>(alloc: Global, desk: &mut D, event: &Event) -> Result<(), Stop>
+pub fn tell_event<D: Desk>(alloc: Global, desk: &mut D, event: &Event) -> Result<(), Stop>
     ensures { Step (given_to outputs.Out (event_line event.now)) (D.seen desk.old) (D.seen desk.new)
         result }
 {
@@ -124,7 +124,7 @@ pub(crate) fn tell_event<D: Desk>(alloc: Global, desk: &mut D, event: &Event) ->
 }
 
 /// Gives a line of the log to Log; where it would be dropped, it is not made.
-pub(crate) fn tell_line<D: Desk>(alloc: Global, desk: &mut D, line: &LogLine) -> Result<(), Stop>
+pub fn tell_line<D: Desk>(alloc: Global, desk: &mut D, line: &LogLine) -> Result<(), Stop>
     requires { IsFormed line.now }
     ensures { Step (given_to outputs.Log (line_text line.now)) (D.seen desk.old) (D.seen desk.new)
         result }
@@ -169,7 +169,7 @@ pub fn tell_line_in<D: Desk>(
 }
 
 /// Gives the line of a history or a counterexample to Out, and behind it the history and its key.
-pub(crate) fn tell_history<D: Desk>(
+pub fn tell_history<D: Desk>(
     alloc: Global,
     desk: &mut D,
     table: &Table,

@@ -1,4 +1,0 @@
-use Rattle.cc_tell.proofs.certain.tell_answer.Goals as goal
-
-pub returns : goal.returns
-returns g c = λ d of. c.give_made.ensures _ (c.answer_line-line.ensures d of)

@@ -1,4 +1,0 @@
-use Rattle.cc_tell.proofs.certain.tell_heading.Goals as goal
-
-pub returns : goal.returns
-returns g c = c.give_made.ensures _ c.heading_text.ensures

@@ -1,5 +1,0 @@
-use Rattle.cc_tell.proofs.GivenSteps.{step_nothing}
-use Rattle.cc_tell.proofs.silent.tell_silent_verdict.Goals as goal
-
-pub returns-in_err-text-clause-told : goal.returns-in_err-text-clause-told
-returns-in_err-text-clause-told g c = step_nothing _ _ c.from_residual.result c.from_residual.ensures.1

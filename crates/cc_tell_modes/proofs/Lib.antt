@@ -1,0 +1,2 @@
+pub mod CauseLines
+pub mod SureLines

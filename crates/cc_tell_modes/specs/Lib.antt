@@ -1,0 +1,5 @@
+pub mod CauseTexts
+pub mod GeneralTexts
+pub mod ModelTexts
+pub mod SilentVerdicts
+pub mod SureTexts
