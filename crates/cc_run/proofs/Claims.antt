@@ -13,14 +13,14 @@ use Rattle.cc_describe.specs.declared.description.Described.{Described}
 use Rattle.cc_describe.specs.declared.heads.Heads.TheVariants as heads
 use Rattle.cc_describe.specs.FirstRefusal.{file_named}
 use Rattle.cc_describe.specs.Places.{Files}
+use Rattle.cc_list.proofs.Described.{IsRead}
 use Rattle.cc_ports.specs.Contents.{Contents}
-use Rattle.cc_run.specs.Asking.{IsFaultNamed}
+use Rattle.cc_list.specs.Asking.{IsFaultNamed}
 use Rattle.cc_run.specs.Modes.Surely.{NamesUnclaimed, RefusesClaimed, claim_refusal}
 use Rattle.cc_run.specs.Sures.{IsClaimFault, IsUnclaimed, claimed_named}
-use Rattle.cc_run.specs.Tasks.{AreRead, Named, asked_refusal, description_in, query_named}
+use Rattle.cc_list.specs.Tasks.{AreRead, Named, asked_refusal, description_in, query_named}
 use Rattle.cc_words.specs.Words.{Text}
-use Rattle.cc_run.proofs.Outcomes.{known}
-use Rattle.cc_run.proofs.Readings.{IsRead}
+use Rattle.cc_list.proofs.Outcomes.{known}
 
 -- ---- the claim
 

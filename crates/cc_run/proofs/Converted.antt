@@ -38,16 +38,16 @@ use Rattle.cc_query.specs.Accepted.{subject_of}
 use Rattle.cc_query.specs.Sessions.{Fits, refusal_at}
 use Rattle.cc_query.proofs.Giving.{last_is}
 use Rattle.cc_query.proofs.Shortness.{last_low}
-use Rattle.cc_run.specs.Asking.{AreOf, AreSearchable}
+use Rattle.cc_list.specs.Asking.{AreOf, AreSearchable}
 use Rattle.cc_run.specs.Converted.{AreLeft, HasLeft, HasOpened, IsJudged, converted_by, other_said}
-use Rattle.cc_run.specs.Promises.{Keeps, log_asked}
-use Rattle.cc_run.specs.Stops.{Asks, Prints, outcome}
-use Rattle.cc_run.specs.Telling.{counts_of, task_to_check}
+use Rattle.cc_list.specs.Promises.{Keeps, log_asked}
+use Rattle.cc_list.specs.Stops.{Asks, Prints, outcome}
+use Rattle.cc_list.specs.Telling.{counts_of, task_to_check}
 use Rattle.cc_run.specs.Modes.Checking.{NamesLog, verdict_status}
 use Rattle.cc_run.specs.Modes.Converting.{Converts, IsConverted, converting_promise}
-use Rattle.cc_run.specs.Names.{IsAnswer}
-use Rattle.cc_run.specs.Tasks.{checked_by}
-use Rattle.cc_run.specs.Wholes.{Whole}
+use Rattle.cc_list.specs.Names.{IsAnswer}
+use Rattle.cc_run.specs.Naming.{checked_by}
+use Rattle.cc_list.specs.Wholes.{Whole}
 use Rattle.cc_tell.specs.Steps.{Begins, Step}
 use Rattle.cc_tell.specs.Givens.{given_to, joined, only_out}
 use Rattle.cc_tell.specs.Tellers.{IsCounted, IsWritable}
@@ -58,9 +58,9 @@ use Rattle.cc_theory.specs.Theories.{AreLawsOf}
 use Rattle.cc_words.specs.Requests.{Converting}
 use Rattle.cc_words.specs.Words.{Text}
 use Rattle.cc_tell.proofs.LineSteps.{LinesSoFar, lines_begin, lines_end, lines_more, lines_stop}
-use Rattle.cc_run.proofs.Callings.{first_none, stop_answers_nothing}
-use Rattle.cc_run.proofs.Outcomes.{known, prints_begun, prints_whole}
-use Rattle.cc_run.proofs.Passing.{range_is}
+use Rattle.cc_list.proofs.Callings.{first_none, stop_answers_nothing}
+use Rattle.cc_list.proofs.Outcomes.{known, prints_begun, prints_whole}
+use Rattle.cc_list.proofs.Passing.{range_is}
 
 -- ---- a section of the log
 

@@ -22,6 +22,7 @@ use Rattle.cc_describe.specs.Describing.{IsDescribed}
 use Rattle.cc_describe.specs.FirstRefusal.{file_named}
 use Rattle.cc_describe.specs.Places.{Files, Place, opened_in}
 use Rattle.cc_ground.specs.Counting.{laws_refusal}
+use Rattle.cc_list.proofs.Described.{IsRead}
 use Rattle.cc_ports.specs.Contents.{Contents}
 use Rattle.cc_ports.specs.declared.desk.To.TheVariants as outputs
 use Rattle.cc_ports.specs.Moments.{Moment}
@@ -29,21 +30,20 @@ use Rattle.cc_print.specs.Keys.{IsKeyText}
 use Rattle.cc_print.specs.Laws.{OneKey}
 use Rattle.cc_run.specs.Explained.{IsExplainingFault, IsLookedAt, IsRowFault, TellsRow}
 use Rattle.cc_run.specs.Modes.Explaining.{Explains, HasNoRow, IsExplained, IsRowNamed, MayEndExplaining, RefusesRow, RefusesRowOf, explaining_promise, no_history_line}
-use Rattle.cc_run.specs.Promises.{Keeps}
-use Rattle.cc_run.specs.Stops.{Prints}
-use Rattle.cc_run.specs.Tasks.{AreRead, description_in}
-use Rattle.cc_run.specs.Wholes.{Whole}
+use Rattle.cc_list.specs.Promises.{Keeps}
+use Rattle.cc_list.specs.Stops.{Prints}
+use Rattle.cc_list.specs.Tasks.{AreRead, description_in}
+use Rattle.cc_list.specs.Wholes.{Whole}
 use Rattle.cc_tell.specs.declared.status.Status.{Status}
 use Rattle.cc_tell.specs.declared.status.Status.TheVariants as statuses
 use Rattle.cc_tell.specs.declared.status.Stop.{Stop}
-use Rattle.cc_tell.specs.CauseTexts.{why_text}
+use Rattle.cc_tell_modes.specs.CauseTexts.{why_text}
 use Rattle.cc_tell.specs.Steps.{Step}
 use Rattle.cc_tell.specs.Givens.{given_to, only_out}
 use Rattle.cc_theory.specs.Theories.{rules_refusal}
 use Rattle.cc_words.specs.Requests.{Explaining}
 use Rattle.cc_words.specs.Words.{Text}
-use Rattle.cc_run.proofs.Outcomes.{asks_no_more, known, prints_whole}
-use Rattle.cc_run.proofs.Readings.{IsRead}
+use Rattle.cc_list.proofs.Outcomes.{asks_no_more, known, prints_whole}
 
 -- ---- the row
 

@@ -32,16 +32,17 @@ use Rattle.cc_form.specs.Queries.{IsQueryAt}
 use Rattle.cc_form.specs.Store.{literal_count_of}
 use Rattle.cc_ground.specs.Counting.{laws_refusal}
 use Rattle.cc_laws.specs.Questions.{step_refusal, steps_refusal}
+use Rattle.cc_list.proofs.Described.{IsRead}
 use Rattle.cc_ports.specs.Contents.{Contents}
 use Rattle.cc_ports.specs.declared.desk.To.TheVariants as outputs
 use Rattle.cc_ports.specs.Moments.{Moment}
 use Rattle.cc_query.specs.Sessions.{refusal_at}
 use Rattle.cc_run.specs.Exported.{IsAskedAt, IsExportFault, IsExported, tried_refusal}
 use Rattle.cc_run.specs.Modes.Exporting.{Exports, MayEndExporting, NamesHorizon, RefusesExporting, export_refusal, exporting_promise, horizon_refusal, is_outside}
-use Rattle.cc_run.specs.Promises.{Keeps}
-use Rattle.cc_run.specs.Stops.{Prints}
-use Rattle.cc_run.specs.Tasks.{AreRead, description_in, queries_in, query_named, query_refusal}
-use Rattle.cc_run.specs.Wholes.{Whole}
+use Rattle.cc_list.specs.Promises.{Keeps}
+use Rattle.cc_list.specs.Stops.{Prints}
+use Rattle.cc_list.specs.Tasks.{AreRead, description_in, queries_in, query_named, query_refusal}
+use Rattle.cc_list.specs.Wholes.{Whole}
 use Rattle.cc_tell.specs.declared.status.Status.{Status}
 use Rattle.cc_tell.specs.declared.status.Status.TheVariants as statuses
 use Rattle.cc_tell.specs.declared.status.Stop.{Stop}
@@ -53,9 +54,8 @@ use Rattle.cc_words.specs.Words.{Text}
 use Rattle.cc_tell.proofs.GivenSteps.{step_nothing}
 use Rattle.cc_tell.proofs.LineSteps.{LinesSoFar, lines_end, lines_stop}
 use Rattle.cc_run.proofs.Explained.{ended_as}
-use Rattle.cc_run.proofs.Named.{refused_found, unrefused_query}
-use Rattle.cc_run.proofs.Outcomes.{asks_no_more, known, prints_whole}
-use Rattle.cc_run.proofs.Readings.{IsRead}
+use Rattle.cc_list.proofs.Named.{refused_found, unrefused_query}
+use Rattle.cc_list.proofs.Outcomes.{asks_no_more, known, prints_whole}
 
 -- an error that is handed on
 pub handed_on : {X : Type 0} (P : Fault → Type 0) (fault : Fault) (s : Result X Fault) → IsErrAnd s (λ e. e ≡ fault) → P fault → IfErr s P

@@ -19,7 +19,7 @@ use Rattle.cc_tell.specs.declared.status.Status.TheVariants as statuses
 use Rattle.cc_tell.specs.declared.status.Stop.{Stop}
 use Rattle.cc_tell.specs.declared.status.Stop.TheVariants as stops
 use Rattle.cc_run.specs.Generals.{AreWideOf, IsGeneralOfSome, IsWritableGeneral, TellsGeneralEvent, TellsGeneralRun, TellsGenerally, generally_given}
-use Rattle.cc_tell.specs.GeneralTexts.{general_status_behind, given_generally}
+use Rattle.cc_tell_modes.specs.GeneralTexts.{general_status_behind, given_generally}
 use Rattle.cc_run.specs.Modes.Generally.{EndsGenerally}
 use Rattle.cc_tell.specs.ErrLines.{refusal_text}
 use Rattle.cc_ports.specs.Moments.{Moment}

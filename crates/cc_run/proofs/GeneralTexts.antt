@@ -19,7 +19,7 @@ use Rattle.cc_general.specs.GeneralTold.{ending_of, general_header, general_log,
 use Rattle.cc_query.specs.Parts.{section_lines}
 use Rattle.cc_run.specs.Generals.{generally_given}
 use Rattle.cc_run.specs.Modes.Generally.{EndsGenerally}
-use Rattle.cc_tell.specs.GeneralTexts.{general_status_behind, given_generally, heading_for, lines_text}
+use Rattle.cc_tell_modes.specs.GeneralTexts.{general_status_behind, given_generally, heading_for, lines_text}
 use Rattle.cc_tell.specs.Statuses.{status_of}
 use Rattle.cc_tell.specs.Givens.{Given, joined}
 use Rattle.cc_wide.specs.WideLaws.{WideDescription, frame}

@@ -23,7 +23,7 @@ use Rattle.cc_run.specs.Generals.{IsWritableGeneral}
 use Rattle.cc_wide.specs.WideLaws.{WideDescription}
 use Rattle.cc_wide.specs.WideLists.{rival_axioms, rivals_list}
 use Rattle.cc_wide.specs.WideRules.{IsGeneral, wide_sizes}
-use Rattle.cc_run.proofs.NumberedSteps.{section_low}
+use Rattle.cc_list.proofs.NumberedSteps.{section_low}
 
 -- its indexes are below the sizes, whose sum is at most the number of variables
 shown_written : (w : WideDescription) (q : Query) (budget horizon : ℕ) (one : Shown) → IsGeneral w q horizon one.row → IsShownRightly w budget horizon one →

@@ -15,19 +15,19 @@ use Rattle.cc_ports.specs.Moments.{Moment}
 use Rattle.cc_run.specs.Modes.CheckingGeneral.{ChecksGeneral, NamesGeneralLog, RefusesCheckingGeneral, general_checking_promise, named_for_general}
 use Rattle.cc_run.specs.Modes.CheckingSure.{MayEndCheckingSure}
 use Rattle.cc_run.specs.Modes.Generally.{NamesWide, RefusesGenerally}
-use Rattle.cc_run.specs.Promises.{Keeps, Promise}
-use Rattle.cc_run.specs.Stops.{Prints}
-use Rattle.cc_run.specs.Wholes.{Whole}
+use Rattle.cc_list.specs.Promises.{Keeps, Promise}
+use Rattle.cc_list.specs.Stops.{Prints}
+use Rattle.cc_list.specs.Wholes.{Whole}
 use Rattle.cc_tell.specs.declared.status.Status.{Status}
 use Rattle.cc_tell.specs.declared.status.Stop.{Stop}
-use Rattle.cc_tell.specs.SilentVerdicts.{silent_verdict_line, silent_verdict_status}
+use Rattle.cc_tell_modes.specs.SilentVerdicts.{silent_verdict_line, silent_verdict_status}
 use Rattle.cc_tell.specs.Steps.{Step}
 use Rattle.cc_tell.specs.Givens.{only_out}
 use Rattle.cc_wide.specs.WideLaws.{WideDescription}
 use Rattle.cc_words.specs.declared.asked.CheckGeneralAsked.{CheckGeneralAsked}
 use Rattle.cc_words.specs.Requests.{GeneralChecking, ToCheckGeneral}
 use Rattle.cc_words.specs.Words.{Text}
-use Rattle.cc_run.proofs.Outcomes.{asks_no_more, known, prints_whole}
+use Rattle.cc_list.proofs.Outcomes.{asks_no_more, known, prints_whole}
 use Rattle.cc_run.proofs.Readings.{general_checking_by}
 use Rattle.cc_run.proofs.SurelyChecked.{verdict_may}
 

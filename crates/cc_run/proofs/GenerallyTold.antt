@@ -13,9 +13,9 @@ use Rattle.cc_ports.specs.Contents.{Contents}
 use Rattle.cc_ports.specs.Moments.{Moment}
 use Rattle.cc_run.specs.Generals.{TellsGenerally, generally_given}
 use Rattle.cc_run.specs.Modes.Generally.{EndsGenerally, ListsGenerally, NamesWide, RefusesGenerally, general_promise, general_status, named_generally}
-use Rattle.cc_run.specs.Promises.{IsEndStatus, Keeps, log_asked}
-use Rattle.cc_run.specs.Stops.{Prints, outcome}
-use Rattle.cc_run.specs.Wholes.{Whole}
+use Rattle.cc_list.specs.Promises.{IsEndStatus, Keeps, log_asked}
+use Rattle.cc_list.specs.Stops.{Prints, outcome}
+use Rattle.cc_list.specs.Wholes.{Whole}
 use Rattle.cc_tell.specs.declared.status.Status.{Status}
 use Rattle.cc_tell.specs.declared.status.Status.TheVariants as statuses
 use Rattle.cc_tell.specs.declared.status.Stop.{Stop}
@@ -26,7 +26,7 @@ use Rattle.cc_words.specs.declared.asked.GeneralAsked.{GeneralAsked}
 use Rattle.cc_words.specs.Requests.{Generally, ToListGenerally}
 use Rattle.cc_words.specs.Words.{Text}
 use Rattle.cc_tell.proofs.GivenSteps.{step_as}
-use Rattle.cc_run.proofs.Outcomes.{known, prints_begun}
+use Rattle.cc_list.proofs.Outcomes.{known, prints_begun}
 use Rattle.cc_run.proofs.Readings.{generally_by}
 use Rattle.cc_run.proofs.SurelyTold.{log_begins}
 

@@ -1,5 +1,5 @@
 -- A log that is to be judged: that it is the one that words name, and what is refused of it.
-use Rattle.std.proofs.Common.{◌≡◌, refl, sym, ap, subst, ◌<◌, ◌≤◌, List, [], ℕ, Option, Some, None, IfSome, length, inl, inr}
+use Rattle.std.proofs.Common.{Bool, Result, Ok, Err, false, [], inr, IfOk, Option, Some, IfSome, ◌≡◌, refl, sym, ap, subst, ◌<◌, ◌≤◌, List, [], ℕ, Option, Some, None, IfSome, length, inl, inr}
 use Rattle.cc_defs.specs.declared.lists.Key.{Key}
 use Rattle.cc_defs.specs.declared.log.LogVerdict.{LogVerdict}
 use Rattle.cc_defs.specs.declared.refusal.Fault.{Fault}
@@ -15,17 +15,27 @@ use Rattle.cc_describe.specs.Places.{Files}
 use Rattle.cc_judge.specs.Judging.{BlocksHistories, IsJudgeFault, IsVerdictWithin}
 use Rattle.cc_ports.specs.Contents.{Contents}
 use Rattle.cc_query.specs.Accepted.{subject_of}
-use Rattle.cc_run.specs.Modes.Checking.{NamesLog, RefusesChecking, RefusesLog, checking_promise}
+use Rattle.cc_run.specs.Modes.Checking.{Checks, MayEndChecking, verdict_status, NamesLog, RefusesChecking, RefusesLog, checking_promise}
 use Rattle.cc_run.specs.Modes.Converting.{converting_promise}
-use Rattle.cc_run.specs.Promises.{Promise}
-use Rattle.cc_run.specs.Tasks.{IsTask, Task, checked_by, named_in}
-use Rattle.cc_run.specs.Telling.{task_to_check}
-use Rattle.cc_run.proofs.Outcomes.{IsSaid}
+use Rattle.cc_list.specs.Promises.{Keeps, Promise}
+use Rattle.cc_list.specs.Tasks.{IsTask, Task}
+use Rattle.cc_run.specs.Naming.{checked_by, named_in}
+use Rattle.cc_list.specs.Telling.{task_to_check}
 use Rattle.cc_run.proofs.Readings.{checking_by, converting_by}
 use Rattle.cc_words.specs.declared.asked.CheckAsked.{CheckAsked}
 use Rattle.cc_words.specs.declared.asked.ConvertAsked.{ConvertAsked}
 use Rattle.cc_words.specs.Requests.{Checking, Converting, ToCheck, ToConvert}
 use Rattle.cc_words.specs.Words.{Text}
+use Rattle.cc_list.specs.Stops.{Prints}
+use Rattle.cc_list.specs.Wholes.{Whole}
+use Rattle.cc_ports.specs.Moments.{Moment}
+use Rattle.cc_print.specs.Verdicts.{verdict_line}
+use Rattle.cc_tell.specs.declared.status.Status.{Status}
+use Rattle.cc_tell.specs.declared.status.Stop.{Stop}
+use Rattle.cc_tell.specs.Givens.{only_out}
+use Rattle.cc_tell.specs.Steps.{Step}
+use Rattle.cc_list.proofs.Outcomes.{asks_no_more, known, prints_whole}
+use Rattle.cc_defs.specs.declared.log.LogVerdict.TheVariants as verdicts
 
 same_checking : (a b : Checking) → ToCheck a ≡ ToCheck b → a ≡ b
 same_checking a b e = cc
@@ -48,6 +58,55 @@ is_log_of (Some c) checking task name read bytes same same_bytes is there = reco
   is = is;
   there = subst (λ (b : List ℕ). c.files checking.log ≡ Some b) (sym same_bytes) (subst (λ (n : Text). c.files n ≡ Some read) same there);
 }
+
+-- ---- a verdict
+
+verdict_ends : (verdict : LogVerdict) → MayEndChecking (verdict_status verdict)
+verdict_ends (verdicts.Accepted first last blocked) = tt
+verdict_ends (verdicts.Refused line reason) = tt
+
+ends_verdict : (verdict : LogVerdict) (r : Result Status Stop) → IfOk r (λ status. status ≡ verdict_status verdict) → IfOk r MayEndChecking
+ends_verdict verdict (Ok status) is = subst (λ (s : Status). MayEndChecking s) (sym is) (verdict_ends verdict)
+ends_verdict verdict (Err stop) is = tt
+
+-- what is said of a log
+pub record IsSaid (task : Task) (bytes : List ℕ) (verdict : LogVerdict) : Type 0 where
+  pub few : length bytes ≤ limit_number limits.LogBytes
+  pub judged : IsVerdict (subject_of task.description task.query task.ask.after) bytes verdict
+  pub within : IsVerdictWithin task.description task.query task.ask.after bytes verdict
+  pub blocks : BlocksHistories task.description task.query task.ask.after bytes verdict
+
+abbrev verdict_whole : LogVerdict → Whole
+verdict_whole verdict = record { given = only_out (verdict_line verdict); begun = false; ends = Some (verdict_status verdict) }
+
+verdict_given : (files : Files) (checking : Checking) (task : Task) (bytes : List ℕ) (verdict : LogVerdict) → NamesLog files checking task bytes → IsSaid task bytes verdict →
+    Checks checking files (verdict_whole verdict)
+verdict_given files checking task bytes verdict named said = record {
+  task = task;
+  bytes = bytes;
+  named = named;
+  few = said.few;
+  verdict = verdict;
+  judged = said.judged;
+  within = said.within;
+  blocks = said.blocks;
+  given = refl;
+  begun = refl;
+  ends = refl;
+}
+
+verdict_ended : (verdict : LogVerdict) (r : Result Status Stop) → IfOk r (λ status. status ≡ verdict_status verdict) → IfOk r (λ status. Some (verdict_status verdict) ≡ Some status)
+verdict_ended verdict (Ok status) is = ap Some (sym is)
+verdict_ended verdict (Err stop) is = tt
+
+pub prints_verdict : (begins : Bool) (checking : Checking) (task : Task) (bytes : List ℕ) (verdict : LogVerdict) (x z : Moment) (r : Result Status Stop) →
+    IfSome x.told (λ c. NamesLog c.files checking task bytes) → IsSaid task bytes verdict →
+    Step (only_out (verdict_line verdict)) x z r → IfOk r (λ status. status ≡ verdict_status verdict) → Prints (checking_promise checking) begins [] x z r
+prints_verdict begins checking task bytes verdict x z r named said step is =
+    prints_whole (checking_promise checking) begins [] (verdict_whole verdict) x z r
+    (known x.told (λ c. NamesLog c.files checking task bytes) (λ c. Keeps (checking_promise checking) c.files (verdict_whole verdict))
+    (λ c log. inr (verdict_given c.files checking task bytes verdict log said)) named)
+    refl step (verdict_ended verdict r is) (ends_verdict verdict r is) (asks_no_more (checking_promise checking) x z r (λ _. refl) step.moves.called)
 
 -- ---- what is said
 

@@ -20,12 +20,12 @@ use Rattle.cc_query.specs.declared.stage.Find.TheVariants as finds
 use Rattle.cc_query.specs.Parts.{open_section, section_of}
 use Rattle.cc_query.specs.Searches.{HasMore, IsBehind, SearchView, Stands, TellsTooMany, found_behind}
 use Rattle.cc_run.specs.ModelsTold.{AreAt, AreWithin, EndsListing, IsAt, TellsFind, TellsListing, TellsMore, told_of}
-use Rattle.cc_tell.specs.declared.models.Lister.{Lister}
+use Rattle.cc_tell_modes.specs.declared.models.Lister.{Lister}
 use Rattle.cc_tell.specs.declared.status.Status.{Status}
 use Rattle.cc_tell.specs.declared.status.Status.TheVariants as statuses
 use Rattle.cc_tell.specs.declared.status.Stop.{Stop}
 use Rattle.cc_tell.specs.declared.status.Stop.TheVariants as stops
-use Rattle.cc_tell.specs.ModelTexts.{models_end, models_status, models_text}
+use Rattle.cc_tell_modes.specs.ModelTexts.{models_end, models_status, models_text}
 use Rattle.cc_tell.specs.ErrLines.{refusal_text}
 use Rattle.cc_tell.specs.Steps.{Moves, Step}
 use Rattle.cc_tell.specs.Givens.{given_to, Given, joined, nothing, only_err}

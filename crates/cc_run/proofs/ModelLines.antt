@@ -14,9 +14,9 @@ use Rattle.cc_query.specs.Parts.{open_section, section_of}
 use Rattle.cc_query.specs.Searches.{SearchView, Stands}
 use Rattle.cc_run.specs.ModelsTold.{AreWithin}
 use Rattle.cc_tell.specs.Tellers.{IsWritable}
-use Rattle.cc_run.proofs.GoodClauses.{IsGood, all_good, chain_good, clause_few, denial_good, in_first, in_rest}
-use Rattle.cc_run.proofs.NumberedSteps.{steps_few, told_count}
-use Rattle.cc_run.proofs.Worth.{all_both, all_front}
+use Rattle.cc_list.proofs.GoodClauses.{IsGood, all_good, chain_good, clause_few, denial_good, in_first, in_rest}
+use Rattle.cc_list.proofs.NumberedSteps.{steps_few, told_count}
+use Rattle.cc_list.proofs.Worth.{all_both, all_front}
 
 -- ---- rows
 

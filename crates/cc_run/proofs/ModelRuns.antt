@@ -27,13 +27,13 @@ use Rattle.cc_run.specs.Modes.Checking.{verdict_status}
 use Rattle.cc_run.specs.Modes.CheckingModels.{ChecksModels, models_checking_promise}
 use Rattle.cc_run.specs.Modes.Modelling.{EndsModels, IsCnfIn, Models, RefusesCnf, modelling_promise}
 use Rattle.cc_run.specs.ModelsTold.{AreWithin, EndsListing, TellsListing, told_of}
-use Rattle.cc_run.specs.Promises.{IsEndStatus, Keeps, log_asked}
-use Rattle.cc_run.specs.Stops.{Prints, outcome}
-use Rattle.cc_run.specs.Wholes.{Whole}
+use Rattle.cc_list.specs.Promises.{IsEndStatus, Keeps, log_asked}
+use Rattle.cc_list.specs.Stops.{Prints, outcome}
+use Rattle.cc_list.specs.Wholes.{Whole}
 use Rattle.cc_tell.specs.declared.status.Status.{Status}
 use Rattle.cc_tell.specs.declared.status.Status.TheVariants as statuses
 use Rattle.cc_tell.specs.declared.status.Stop.{Stop}
-use Rattle.cc_tell.specs.ModelTexts.{models_status}
+use Rattle.cc_tell_modes.specs.ModelTexts.{models_status}
 use Rattle.cc_tell.specs.Steps.{Begins, Step}
 use Rattle.cc_tell.specs.Givens.{nothing, only_out}
 use Rattle.cc_words.specs.declared.asked.Asked.TheVariants as requests
@@ -44,9 +44,9 @@ use Rattle.cc_words.specs.Views.{plain_request, plain_text}
 use Rattle.cc_words.specs.Words.{Text}
 use Rattle.cc_tell.proofs.Calls.{called_on}
 use Rattle.cc_tell.proofs.GivenSteps.{calm_both, rose_later, step_as}
-use Rattle.cc_run.proofs.Callings.{first_none}
-use Rattle.cc_run.proofs.NumberedSteps.{section_low}
-use Rattle.cc_run.proofs.Outcomes.{Comes, known, left, prints_whole, told_search, whole_comes}
+use Rattle.cc_list.proofs.Callings.{first_none}
+use Rattle.cc_list.proofs.NumberedSteps.{section_low}
+use Rattle.cc_list.proofs.Outcomes.{Comes, known, left, prints_whole, told_search, whole_comes}
 
 -- ---- what is asked
 

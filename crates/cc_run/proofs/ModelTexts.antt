@@ -15,7 +15,7 @@ use Rattle.cc_defs.specs.Runs.{Derive, Section, Step, Tell, denied_rows, logged,
 use Rattle.cc_print.specs.Models.{model_line}
 use Rattle.cc_query.specs.Accepted.{lines_of}
 use Rattle.cc_query.specs.Parts.{open_section, section_of}
-use Rattle.cc_tell.specs.ModelTexts.{model_lines, models_end, models_text}
+use Rattle.cc_tell_modes.specs.ModelTexts.{model_lines, models_end, models_text}
 
 -- ---- the lines of a section
 

@@ -9,7 +9,7 @@ use Rattle.cc_run.specs.Modes.Exporting.{MayEndExporting}
 use Rattle.cc_run.specs.Modes.Making.{MayEndMaking}
 use Rattle.cc_run.specs.Modes.Surely.{MayEndSurely}
 use Rattle.cc_run.specs.Promised.{promise_asked}
-use Rattle.cc_run.specs.Promises.{IsEndStatus}
+use Rattle.cc_list.specs.Promises.{IsEndStatus}
 use Rattle.cc_tell.specs.declared.status.Status.{Status}
 use Rattle.cc_tell.specs.declared.status.Status.TheVariants as statuses
 use Rattle.cc_words.specs.Requests.{Request, ToBeSure, ToCheck, ToCheckGeneral, ToCheckModels, ToCheckSure, ToConvert, ToExplain, ToExport, ToList, ToListGenerally, ToMake, ToModel}

@@ -1,7 +1,7 @@
 -- A description that was read, by its places, and what is listed or refused of it.
-use Rattle.std.proofs.Common.{Bool, ◌≡◌, ◌∙◌, refl, sym, ap, subst, ℕ, List, [], ◌∷◌, ◌++◌, append-nil, map, Option, Some, None, IfSome, Result, Ok, Err, inl, inr, is_some, ◌≤◌, IfOk, arith, option_map}
+use Rattle.std.proofs.Common.{Bool, ◌≡◌, ◌∙◌, refl, sym, ap, subst, ℕ, List, [], ◌∷◌, ◌++◌, append-nil, map, Option, Some, None, IfSome, Result, Ok, inl, inr, ◌≤◌, IfOk, arith, option_map}
 use Rattle.std.specs.Prelude.{IfErr, IsErrOf}
-use Rattle.cc_asked.specs.Descriptions.{IsDescriptionOf, IsWideDescriptionOf, description_of, wide_description_of}
+use Rattle.cc_asked.specs.Descriptions.{IsWideDescriptionOf, wide_description_of}
 use Rattle.cc_defs.specs.declared.lists.Key.{Key}
 use Rattle.cc_defs.specs.declared.refusal.Refusal.{Refusal}
 use Rattle.cc_defs.specs.Description.{Description}
@@ -14,17 +14,19 @@ use Rattle.cc_describe.specs.declared.heads.Heads.TheVariants as heads
 use Rattle.cc_describe.specs.Describing.{AreFirstNames, AreToOpen, Describes, HasStopped, IsDescribed, OpensFor, SaysAll}
 use Rattle.cc_describe.specs.FirstRefusal.{declared_in, file_named}
 use Rattle.cc_describe.specs.Places.{Files, Place}
+use Rattle.cc_list.proofs.Described.{IsRead, first_files, named_refused, stopped, stopped_refuses}
 use Rattle.cc_ports.specs.Calls.{Call, names_begun, names_opened, with_calls}
 use Rattle.cc_ports.specs.Contents.{Contents, Rose, with_rest}
 use Rattle.cc_ports.specs.Moments.{Moment}
-use Rattle.cc_run.specs.Asking.{AreNamed, IsRefusedNamed}
+use Rattle.cc_list.specs.Asking.{AreNamed, IsRefusedNamed}
 use Rattle.cc_run.specs.Modes.Generally.{wide_in}
+use Rattle.cc_run.specs.Naming.{made_files, made_named}
 use Rattle.cc_run.specs.Promised.{promise_asked, promise_of}
-use Rattle.cc_run.specs.Promises.{names_log}
+use Rattle.cc_list.specs.Promises.{names_log}
 use Rattle.cc_run.specs.Requested.{AsksDescription, AsksQuery, IsFileOf, heads_of, named_of, opens_behind, source_of, OpensDescription, Reads}
-use Rattle.cc_run.specs.Stops.{PrintsAsked, Prints}
-use Rattle.cc_run.specs.Tasks.{AreRead, AreReadFor, IsTask, Named, RefusesDescriptionFor, RefusesNamed, Task, asked_refusal, description_in, made_files, made_named, query_named}
-use Rattle.cc_tell.specs.Steps.{Begins, IsCalm}
+use Rattle.cc_list.specs.Stops.{PrintsAsked, Prints}
+use Rattle.cc_list.specs.Tasks.{AreRead, IsTask, RefusesDescriptionFor, RefusesNamed, Task, description_in}
+use Rattle.cc_tell.specs.Steps.{IsCalm}
 use Rattle.cc_tell.specs.declared.status.Status.{Status}
 use Rattle.cc_tell.specs.declared.status.Stop.{Stop}
 use Rattle.cc_words.specs.declared.asked.Asked.{Asked}
@@ -36,27 +38,16 @@ use Rattle.cc_words.specs.declared.asked.ConvertAsked.{ConvertAsked}
 use Rattle.cc_words.specs.declared.asked.ExplainAsked.{ExplainAsked}
 use Rattle.cc_words.specs.declared.asked.ExportAsked.{ExportAsked}
 use Rattle.cc_words.specs.declared.asked.GeneralAsked.{GeneralAsked}
-use Rattle.cc_words.specs.declared.asked.ListAsked.{ListAsked}
 use Rattle.cc_words.specs.declared.asked.ModelsAsked.{ModelsAsked}
 use Rattle.cc_words.specs.declared.asked.SureAsked.{SureAsked}
-use Rattle.cc_words.specs.Requests.{Checking, Converting, Explaining, Exporting, GeneralChecking, Generally, Listing, ModelChecking, Modelling, Request, SureChecking, Surely, ToBeSure, ToCheck, ToCheckGeneral, ToCheckModels, ToCheckSure, ToConvert, ToExplain, ToExport, ToList, ToListGenerally, ToMake, ToModel}
+use Rattle.cc_words.specs.Requests.{Checking, Converting, Explaining, Exporting, GeneralChecking, Generally, ModelChecking, Modelling, Request, SureChecking, Surely, ToBeSure, ToCheck, ToCheckGeneral, ToCheckModels, ToCheckSure, ToConvert, ToExplain, ToExport, ToList, ToListGenerally, ToMake, ToModel}
 use Rattle.cc_words.specs.Views.{plain_request, plain_text}
 use Rattle.cc_words.specs.Words.{Text}
 use Rattle.cc_tell.proofs.Calls.{called_none}
-use Rattle.cc_run.proofs.Callings.{called_reading, first_all, first_longer}
+use Rattle.cc_list.proofs.Outcomes.{known}
+use Rattle.cc_list.proofs.Callings.{called_reading, first_all, first_longer}
 
 -- what is asked for, in plain words
-abbrev pub listing_by : ListAsked → Listing
-listing_by list = record {
-  file = list.file.now;
-  query = plain_text list.query;
-  count = list.count;
-  budget = list.budget;
-  after = plain_text list.after;
-  log = plain_text list.log;
-  form = list.form;
-}
-
 abbrev pub checking_by : CheckAsked → Checking
 checking_by check = record {
   file = check.file.now;
@@ -106,14 +97,6 @@ general_checking_by check = record { file = check.file.now; query = plain_text c
 
 -- ---- the description of places
 
-pub description_is : (places : List Place) (described : Described) → IsDescribed heads.Definite places described → IsDescriptionOf described (description_in places)
-description_is places described is = record {
-  declarations = declared_in places;
-  table = is.table;
-  signature = is.signature;
-  is = ap (description_of (declared_in places)) (sym is.laws);
-}
-
 pub wide_description_is : (places : List Place) (described : Described) → IsDescribed heads.Any places described → IsWideDescriptionOf described (wide_in places)
 wide_description_is places described is = record {
   declarations = declared_in places;
@@ -121,67 +104,6 @@ wide_description_is places described is = record {
   signature = is.signature;
   is = ap (wide_description_of (declared_in places)) (sym is.wide);
 }
-
--- some places say all of it, and they are those of the files that it is read from, where the desk tells these
-pub record IsRead (which : Heads) (o : Option Contents) (source : Files → Files) (name : Text) (described : Described) : Type 0 where
-  pub places : List Place
-  pub said : IsDescribed which places described
-  pub read : IfSome o (λ before. AreReadFor which (source before.files) name places)
-
-pub is_read : (which : Heads) (o : Option Contents) (source : Files → Files) (name : Text) (described : Described) → SaysAll which described →
-    IfSome o (λ before. Describes which (source before.files) name described) → IsRead which o source name described
-is_read which None source name described says describes = record { places = says.0; said = says.2; read = tt }
-is_read which (Some c) source name described says describes = record {
-  places = describes.0;
-  said = describes.3;
-  read = record { all = describes.1; unrefused = describes.2; there = describes.4 };
-}
-
--- what is true of the files, where the desk tells these
-known : (o : Option Contents) (P Q : Contents → Type 0) → ((c : Contents) → P c → Q c) → IfSome o P → IfSome o Q
-known None P Q f h = tt
-known (Some c) P Q f h = f c h
-
--- ---- what is listed
-
-is_task : (files : Files) (by : Named) (places : List Place) (described : Described) (q : Query) (count : Option ℕ) (budget : ℕ) (key : Option Key) →
-    IsDescribed heads.Definite places described → AreNamed (description_in places) (map plain_query described.queries) by.query by.after q key →
-    AreRead files by.file places →
-    IsTask files by (record { description = description_in places; query = q; ask = record { count = count; budget = budget; after = key } })
-is_task files by places described q count budget key said named read = record {
-  places = places;
-  read = read;
-  description = refl;
-  query = subst (λ queries. query_named by.query queries ≡ Some q) said.queries named.query;
-  unrefused = named.unrefused;
-  key = named.key_is;
-}
-
-pub task_read : (o : Option Contents) (source : Files → Files) (by : Named) (described : Described) (of : IsRead heads.Definite o source by.file described) (q : Query) (key : Option Key) →
-    AreNamed (description_in of.places) (map plain_query described.queries) by.query by.after q key → (count : Option ℕ) (budget : ℕ) →
-    IfSome o (λ before. IsTask (source before.files) by (record { description = description_in of.places; query = q; ask = record { count = count; budget = budget; after = key } }))
-task_read o source by described of q key named count budget =
-    known o (λ before. AreRead (source before.files) by.file of.places)
-    (λ before. IsTask (source before.files) by (record { description = description_in of.places; query = q; ask = record { count = count; budget = budget; after = key } }))
-    (λ before read. is_task (source before.files) by of.places described q count budget key of.said named read) of.read
-
-same_request : (a b : Listing) → ToList a ≡ ToList b → a ≡ b
-same_request a b e = cc
-
-pub listing_is : (asked : ListAsked) (listing : Listing) → ToList (listing_by asked) ≡ ToList listing → listing_by asked ≡ listing
-listing_is asked listing e = same_request (listing_by asked) listing e
-
-log_named : (asked : ListAsked) → is_some asked.log ≡ is_some (plain_text asked.log)
-log_named asked = named asked.log
-  where
-    named : (o : Option _) → is_some o ≡ is_some (plain_text o)
-    named None = refl
-    named (Some text) = refl
-
--- a log that is begun as it is named
-pub begins_named : {X : Type 0} (asked : ListAsked) (listing : Listing) → listing_by asked ≡ listing → (names : List Text) (x y : Moment) (r : Result X Stop) →
-    Begins (is_some asked.log) names x y r → Begins (is_some listing.log) names x y r
-begins_named asked listing is names x y r begins = subst (λ b. Begins b names x y r) (log_named asked ∙ ap (λ (l : Listing). is_some l.log) is) begins
 
 -- the same for a request that is spelled otherwise
 pub task_as : (o : Option Contents) (a b : Request) (task : Task) → a ≡ b → IfSome o (λ before. IsTask (source_of b before.files) (named_of b) task) →
@@ -236,7 +158,7 @@ refused_as d queries request label after {refusal = refusal} query_is after_is s
 -- where a query or a key that is named is refused, the request is refused so
 refused_so : (files : Files) (request : Request) (refusal : Refusal) (file : Text) → AsksQuery request → RefusesNamed (source_of request files) (named_of request) refusal file →
     (promise_of request).Refuses files refusal file
-refused_so files (ToList listing) refusal file asks refused = refused
+refused_so files (ToList listing) refusal file asks refused = absurd asks
 refused_so files (ToCheck checking) refusal file asks refused = inl refused
 refused_so files (ToMake size budget) refusal file asks refused = refused
 refused_so files (ToExplain explaining) refusal file asks refused = absurd asks
@@ -253,7 +175,7 @@ refused_so files (ToCheckGeneral checking) refusal file asks refused = absurd as
 unread_so : (files : Files) (request : Request) (refusal : Refusal) (file : Text) → AsksDescription request →
     RefusesDescriptionFor (heads_of request) (source_of request files) (named_of request) refusal file →
     (promise_of request).Refuses files refusal file
-unread_so files (ToList listing) refusal file asks refused = inl refused
+unread_so files (ToList listing) refusal file asks refused = absurd asks
 unread_so files (ToCheck checking) refusal file asks refused = inl (inl refused)
 unread_so files (ToMake size budget) refusal file asks refused = inl refused
 unread_so files (ToExplain explaining) refusal file asks refused = inl refused
@@ -266,37 +188,12 @@ unread_so files (ToCheckSure checking) refusal file asks refused = inl (inl refu
 unread_so files (ToListGenerally generally) refusal file asks refused = inl refused
 unread_so files (ToCheckGeneral checking) refusal file asks refused = inl (inl refused)
 
-stopped_refuses : (which : Heads) (files : Files) (by : Named) (refusal : Refusal) (file : Text) → HasStopped which files by.file (describe_stops.Refused refusal file) →
-    RefusesDescriptionFor which files by refusal file
-stopped_refuses which files by refusal file stopped =
-    record { places = stopped.0; all = stopped.1; refused = stopped.2; there = stopped.4; name = stopped.3 }
-
 pub refuses_description : (o : Option Contents) (request : Request) (refusal : Refusal) (file : Text) → AsksDescription request →
     IfSome o (λ before. HasStopped (heads_of request) (source_of request before.files) (named_of request).file (describe_stops.Refused refusal file)) →
     IfSome o (λ before. (promise_of request).Refuses before.files refusal file)
 refuses_description o request refusal file asks =
     known o (λ before. HasStopped (heads_of request) (source_of request before.files) (named_of request).file (describe_stops.Refused refusal file)) (λ before. (promise_of request).Refuses before.files refusal file)
     (λ before stopped. unread_so before.files request refusal file asks (stopped_refuses (heads_of request) (source_of request before.files) (named_of request) refusal file stopped))
-
-pub named_refused : (files : Files) (by : Named) (places : List Place) (described : Described) (refusal : Refusal) (file : Text) → IsDescribed heads.Definite places described →
-    AreRead files by.file places → file ≡ file_named described.files refusal →
-    IsRefusedNamed (description_in places) (map plain_query described.queries) by.query by.after refusal → RefusesNamed files by refusal file
-named_refused files by places described refusal file said read name (inl refused) = inr (inl (record {
-  places = places;
-  read = read;
-  refused = subst (λ queries. asked_refusal (description_in places) (query_named by.query queries) ≡ Some refusal) said.queries refused;
-  name = name ∙ ap (λ names. file_named names refusal) said.names;
-}))
-named_refused files by places described refusal file said read name (inr (q, named, unrefused, no_key, same)) = inr (inr (record {
-  places = places;
-  read = read;
-  query = q;
-  named_is = subst (λ queries. query_named by.query queries ≡ Some q) said.queries named;
-  unrefused = unrefused;
-  no_key = no_key;
-  refused = same;
-  name = name ∙ ap (file_named described.files) same;
-}))
 
 pub refuses_named : (o : Option Contents) (request : Request) (described : Described) (of : IsRead heads.Definite o (source_of request) (named_of request).file described) (refusal : Refusal)
     (file : Text) → AsksQuery request → file ≡ file_named described.files refusal →
@@ -317,7 +214,7 @@ OpenedAll request o opened = IfSome o (λ before. (promise_of request).Opens bef
 opens_all : (files : Files) (request : Request) (r : Result Described DescribeStop) (opened : List Text) → AsksDescription request →
     ((which : Heads) (name : Text) → OpensFor which files name r opened → AreToOpen which files name opened) → OpensDescription request files r opened →
     (promise_of request).Opens files (opened ++ opens_behind request)
-opens_all files (ToList listing) r opened asks all are = subst (AreToOpen heads.Definite files listing.file) (sym (append-nil opened)) (all heads.Definite listing.file are)
+opens_all files (ToList listing) r opened asks all are = absurd asks
 opens_all files (ToCheck checking) r opened asks all are = (opened, all heads.Definite checking.file are, refl)
 opens_all files (ToMake size budget) r opened asks all are = append-nil opened ∙ are
 opens_all files (ToExplain explaining) r opened asks all are = subst (AreToOpen heads.Definite files explaining.file) (sym (append-nil opened)) (all heads.Definite explaining.file are)
@@ -336,9 +233,6 @@ opened_all o request described opened asks =
     known o (λ before. OpensDescription request before.files (Ok described) opened) (λ before. (promise_of request).Opens before.files (opened ++ opens_behind request))
     (λ before are. opens_all before.files request (Ok described) opened asks (λ which name is. is) are)
 
-abbrev pub stopped : DescribeStop → Result Described DescribeStop
-stopped stop = Err stop
-
 pub opened_refused : (o : Option Contents) (request : Request) (refusal : Refusal) (file : Text) (opened : List Text) → AsksDescription request →
     IfSome o (λ before. OpensDescription request before.files (stopped (describe_stops.Refused refusal file)) opened) → OpenedAll request o opened
 opened_refused o request refusal file opened asks =
@@ -352,12 +246,6 @@ pub record AreFirstOf (o : Option Contents) (request : Request) (names : List Te
   pub first : AreFirstNames names all
   pub are : IfSome o (λ c. (promise_of request).Opens c.files all)
 
-first_files : (which : Heads) (files : Files) (name : Text) (stop : DescribeStop) (names : List Text) → OpensFor which files name (stopped stop) names →
-    (all : List Text) × AreToOpen which files name all × AreFirstNames names all
-first_files which files name (describe_stops.Refused refusal file) names are = (names, are, first_all names)
-first_files which files name describe_stops.ReadFault names are = are
-first_files which files name describe_stops.OutOfMemory names are = are
-
 -- those of a description, with a log behind them
 first_behind : (which : Heads) (files : Files) (name log : Text) (stop : DescribeStop) (names : List Text) → OpensFor which files name (stopped stop) names →
     (all : List Text) × ((named : List Text) × AreToOpen which files name named × (all ≡ named ++ log ∷ [])) × AreFirstNames names all
@@ -367,7 +255,7 @@ first_behind which files name log stop names are =
 
 first_in : (files : Files) (request : Request) (stop : DescribeStop) (names : List Text) → AsksDescription request → OpensDescription request files (stopped stop) names →
     (all : List Text) × (promise_of request).Opens files all × AreFirstNames names all
-first_in files (ToList listing) stop names asks are = first_files heads.Definite files listing.file stop names are
+first_in files (ToList listing) stop names asks are = absurd asks
 first_in files (ToCheck checking) stop names asks are = first_behind heads.Definite files checking.file checking.log stop names are
 first_in files (ToMake size budget) stop names asks are = (names, are, first_all names)
 first_in files (ToExplain explaining) stop names asks are = first_files heads.Definite files explaining.file stop names are

@@ -11,7 +11,7 @@ use Rattle.cc_defs.specs.Signatures.{Signature}
 use Rattle.cc_describe.specs.declared.description.Described.{Described}
 use Rattle.cc_ports.specs.declared.desk.To.TheVariants as outputs
 use Rattle.cc_ports.specs.Moments.{Moment}
-use Rattle.cc_run.specs.Asking.{AreOf}
+use Rattle.cc_list.specs.Asking.{AreOf}
 use Rattle.cc_run.specs.Modes.Surely.{EndsSurely}
 use Rattle.cc_run.specs.Sures.{IsSureOfSome, IsWritableRun, TellsEvent, TellsRun, TellsSure, surely_given}
 use Rattle.cc_sure.specs.declared.answer.SureEvent.{SureEvent}
@@ -28,7 +28,7 @@ use Rattle.cc_tell.specs.declared.status.Stop.TheVariants as stops
 use Rattle.cc_tell.specs.ErrLines.{refusal_text}
 use Rattle.cc_tell.specs.Steps.{Moves, Step}
 use Rattle.cc_tell.specs.Givens.{given_to, Given, joined, nothing, only_err}
-use Rattle.cc_tell.specs.SureTexts.{given_of, status_behind}
+use Rattle.cc_tell_modes.specs.SureTexts.{given_of, status_behind}
 use Rattle.cc_theory.specs.Theories.{AreLawsOf}
 use Rattle.cc_tell.proofs.GivenSteps.{given_all, joined-nothing, moves_none, step_again, step_done, step_nothing, step_of, step_then}
 use Rattle.cc_run.proofs.SureTexts.{ends_so, event_given, event_written, grown, more_written, told_at}

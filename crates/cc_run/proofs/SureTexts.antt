@@ -27,12 +27,12 @@ use Rattle.cc_sure.specs.SureRuns.{AreTrueSettled, AreTrueTried, IsFairSure, Set
 use Rattle.cc_sure.specs.Accepted.{IsWritableTold}
 use Rattle.cc_sure.specs.Sures.{GoesOn, IsFewEvent, IsGoodEvent, IsOver, IsShortEvent, IsSureEvent, SureView, sought_atom}
 use Rattle.cc_sure.specs.SureTold.{SureTold, NoneAt, ExampleIs, NeverSo, AnswersAre, Ends, atom_heading, none_told, settled_told, sought_heading, sure_header, sure_lines, sure_told, tried_told}
-use Rattle.cc_tell.specs.SureTexts.{ending_line, IsPrintable, given_of, heading_of, status_behind}
+use Rattle.cc_tell_modes.specs.SureTexts.{ending_line, IsPrintable, given_of, heading_of, status_behind}
 use Rattle.cc_tell.specs.Givens.{given_to, Given, joined}
-use Rattle.cc_run.proofs.GoodClauses.{in_first}
-use Rattle.cc_run.proofs.RunEvents.{same_sizes}
-use Rattle.cc_run.proofs.Spending.{path_row}
-use Rattle.cc_run.proofs.Worth.{all_both}
+use Rattle.cc_list.proofs.GoodClauses.{in_first}
+use Rattle.cc_list.proofs.RunEvents.{same_sizes}
+use Rattle.cc_list.proofs.Spending.{path_row}
+use Rattle.cc_list.proofs.Worth.{all_both}
 
 -- ---- what is true of all that is told: rows are of the horizon, and the answers of a position are those of its values
 

@@ -16,19 +16,19 @@ use Rattle.cc_ports.specs.Contents.{Contents}
 use Rattle.cc_ports.specs.Moments.{Moment}
 use Rattle.cc_run.specs.Modes.CheckingSure.{ChecksSure, MayEndCheckingSure, NamesSureLog, RefusesCheckingSure, named_to_check, sure_checking_promise}
 use Rattle.cc_run.specs.Modes.Surely.{NamesUnclaimed, RefusesClaimed}
-use Rattle.cc_run.specs.Promises.{Keeps, Promise}
-use Rattle.cc_run.specs.Stops.{Prints}
-use Rattle.cc_run.specs.Wholes.{Whole}
+use Rattle.cc_list.specs.Promises.{Keeps, Promise}
+use Rattle.cc_list.specs.Stops.{Prints}
+use Rattle.cc_list.specs.Wholes.{Whole}
 use Rattle.cc_sure.specs.SureLogs.{RefutesAtoms, sure_subject}
 use Rattle.cc_tell.specs.declared.status.Status.{Status}
 use Rattle.cc_tell.specs.declared.status.Stop.{Stop}
-use Rattle.cc_tell.specs.SilentVerdicts.{silent_verdict_line, silent_verdict_status}
+use Rattle.cc_tell_modes.specs.SilentVerdicts.{silent_verdict_line, silent_verdict_status}
 use Rattle.cc_tell.specs.Steps.{Step}
 use Rattle.cc_tell.specs.Givens.{only_out}
 use Rattle.cc_words.specs.declared.asked.CheckSureAsked.{CheckSureAsked}
 use Rattle.cc_words.specs.Requests.{SureChecking, ToCheckSure}
 use Rattle.cc_words.specs.Words.{Text}
-use Rattle.cc_run.proofs.Outcomes.{asks_no_more, known, prints_whole}
+use Rattle.cc_list.proofs.Outcomes.{asks_no_more, known, prints_whole}
 use Rattle.cc_run.proofs.Readings.{sure_checking_by}
 
 same_checking : (a b : SureChecking) → ToCheckSure a ≡ ToCheckSure b → a ≡ b

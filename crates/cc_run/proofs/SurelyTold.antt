@@ -13,10 +13,10 @@ use Rattle.cc_describe.specs.Places.{Files}
 use Rattle.cc_ports.specs.Contents.{Contents}
 use Rattle.cc_ports.specs.Moments.{Moment}
 use Rattle.cc_run.specs.Modes.Surely.{EndsSurely, MayEndSurely, NamesUnclaimed, RefusesClaimed, TellsSurely, named_surely, sure_promise, sure_status}
-use Rattle.cc_run.specs.Promises.{Keeps, log_asked}
-use Rattle.cc_run.specs.Stops.{Prints, outcome}
+use Rattle.cc_list.specs.Promises.{Keeps, log_asked}
+use Rattle.cc_list.specs.Stops.{Prints, outcome}
 use Rattle.cc_run.specs.Sures.{TellsSure, surely_given}
-use Rattle.cc_run.specs.Wholes.{Whole}
+use Rattle.cc_list.specs.Wholes.{Whole}
 use Rattle.cc_sure.specs.Accepted.{SureLogsAreAccepted}
 use Rattle.cc_sure.specs.SureRuns.{SureEnding, Complete, NoneAtAll, Spent, SureRun, sure_horizon}
 use Rattle.cc_tell.specs.declared.status.Status.{Status}
@@ -29,8 +29,8 @@ use Rattle.cc_words.specs.Requests.{Surely, ToBeSure}
 use Rattle.cc_words.specs.Views.{plain_text}
 use Rattle.cc_words.specs.Words.{Text}
 use Rattle.cc_tell.proofs.GivenSteps.{step_as}
-use Rattle.cc_run.proofs.Outcomes.{known, prints_begun}
-use Rattle.cc_run.proofs.Passing.{range_is}
+use Rattle.cc_list.proofs.Outcomes.{known, prints_begun}
+use Rattle.cc_list.proofs.Passing.{range_is}
 use Rattle.cc_run.proofs.Readings.{surely_by}
 
 -- ---- what is asked

@@ -18,18 +18,18 @@ use Rattle.cc_describe.specs.declared.heads.Heads.TheVariants as heads
 use Rattle.cc_describe.specs.FirstRefusal.{file_named}
 use Rattle.cc_describe.specs.Places.{Files}
 use Rattle.cc_laws.specs.Questions.{steps_refusal}
+use Rattle.cc_list.proofs.Described.{IsRead}
 use Rattle.cc_ports.specs.Contents.{Contents}
 use Rattle.cc_run.specs.Generals.{IsWideFault, IsWideUnclaimed}
 use Rattle.cc_run.specs.Modes.Generally.{NamesWide, RefusesGenerally, wide_asked_refusal, wide_in}
 use Rattle.cc_run.specs.Sures.{claimed_named}
-use Rattle.cc_run.specs.Tasks.{AreReadFor, Named, query_named, query_refusal}
+use Rattle.cc_list.specs.Tasks.{AreReadFor, Named, query_named, query_refusal}
 use Rattle.cc_wide.specs.WideLaws.{WideDescription, frame, plain_wide_base}
 use Rattle.cc_wide_ground.specs.WideGrounding.{wide_laws_refusal}
 use Rattle.cc_words.specs.Words.{Text}
 use Rattle.cc_run.proofs.Claims.{mapped_none, some_claimed}
 use Rattle.cc_run.proofs.Exported.{handed_on}
-use Rattle.cc_run.proofs.Outcomes.{known}
-use Rattle.cc_run.proofs.Readings.{IsRead}
+use Rattle.cc_list.proofs.Outcomes.{known}
 
 -- ---- the description without laws with heads of any form: a query of it is one of the frame
 

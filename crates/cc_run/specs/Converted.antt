@@ -17,8 +17,8 @@ use Rattle.cc_defs.specs.Signatures.{Signature}
 use Rattle.cc_judge.specs.Judging.{IsVerdictWithin}
 use Rattle.cc_print.specs.Verdicts.{verdict_line}
 use Rattle.cc_query.specs.Accepted.{subject_of}
-use Rattle.cc_run.specs.Asking.{AreOf}
-use Rattle.cc_run.specs.Telling.{counts_of}
+use Rattle.cc_list.specs.Asking.{AreOf}
+use Rattle.cc_list.specs.Telling.{counts_of}
 use Rattle.cc_tell.specs.Givens.{Given}
 
 -- These lines are left, in this version; the own clause of the first has this number.

@@ -10,8 +10,8 @@ use Rattle.cc_defs.specs.Signatures.{Signature}
 use Rattle.cc_ground.specs.Counting.{laws_refusal}
 use Rattle.cc_ports.specs.Moments.{Moment}
 use Rattle.cc_run.specs.Modes.Explaining.{HasNoRow, IsExplained, IsRowNamed, RefusesRowOf}
-use Rattle.cc_run.specs.Tasks.{refusal_without_place}
-use Rattle.cc_run.specs.Wholes.{Whole}
+use Rattle.cc_list.specs.Tasks.{refusal_without_place}
+use Rattle.cc_list.specs.Wholes.{Whole}
 use Rattle.cc_tell.specs.declared.status.Status.{Status}
 use Rattle.cc_tell.specs.declared.status.Stop.{Stop}
 use Rattle.cc_tell.specs.Steps.{Step}

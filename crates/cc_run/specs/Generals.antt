@@ -16,9 +16,11 @@ use Rattle.cc_general.specs.Generals.{GeneralView, IsGeneralOf, Stands}
 use Rattle.cc_general.specs.GeneralTold.{general_log}
 use Rattle.cc_ports.specs.Moments.{Moment}
 use Rattle.cc_rivals.specs.Wides.{AreWideLawsFor, AreWideLawsOf}
+use Rattle.cc_arena.specs.GroundViews.{plain_ground_query}
+use Rattle.cc_run.specs.declared.wide.PreparedWide.{PreparedWide}
 use Rattle.cc_run.specs.Modes.Generally.{EndsGenerally, general_text, wide_asked_refusal}
 use Rattle.cc_run.specs.Modes.Surely.{claim_refusal}
-use Rattle.cc_run.specs.Tasks.{query_named}
+use Rattle.cc_list.specs.Tasks.{query_named}
 use Rattle.cc_tell.specs.declared.status.Status.{Status}
 use Rattle.cc_tell.specs.declared.status.Stop.{Stop}
 use Rattle.cc_tell.specs.Steps.{Step}
@@ -94,3 +96,10 @@ pub record TellsGenerally (w : WideDescription) (q : Query) (count : Option ℕ)
 -- there are a description and a query that it is about, and a run that it stands for
 abbrev pub IsGeneralOfSome : Described → GeneralView → Type 0
 IsGeneralOfSome described general = (w : WideDescription) × (q : Query) × (run : GeneralRun) × IsWideDescriptionOf described w × IsGeneralOf general w q × Stands w q general run
+
+-- what is prepared stands for laws and a query of a description
+abbrev pub StandsForWide : Described → PreparedWide → WideDescription → Query → Type 0
+StandsForWide described prepared w q = AreWideOf described.sig prepared.laws (plain_ground_query prepared.query) w q
+
+abbrev pub IsSearchableWide : Described → PreparedWide → Type 0
+IsSearchableWide described prepared = AreWideSearchable described.sig prepared.laws (plain_ground_query prepared.query)

@@ -16,7 +16,7 @@ use Rattle.cc_query.specs.Searches.{SearchView, Stands, TellsTooMany}
 use Rattle.cc_tell.specs.declared.status.Status.{Status}
 use Rattle.cc_tell.specs.declared.status.Status.TheVariants as statuses
 use Rattle.cc_tell.specs.declared.status.Stop.{Stop}
-use Rattle.cc_tell.specs.ModelTexts.{models_status, models_text}
+use Rattle.cc_tell_modes.specs.ModelTexts.{models_status, models_text}
 use Rattle.cc_tell.specs.ErrLines.{refusal_text}
 use Rattle.cc_tell.specs.Steps.{Step}
 use Rattle.cc_tell.specs.Givens.{Given, joined}

@@ -6,7 +6,6 @@ pub mod Converting
 pub mod Explaining
 pub mod Exporting
 pub mod Generally
-pub mod Listing
 pub mod Making
 pub mod Modelling
 pub mod Surely

@@ -8,12 +8,12 @@ use Rattle.cc_run.specs.Modes.Converting.{converting_promise}
 use Rattle.cc_run.specs.Modes.Explaining.{explaining_promise}
 use Rattle.cc_run.specs.Modes.Exporting.{exporting_promise}
 use Rattle.cc_run.specs.Modes.Generally.{general_promise}
-use Rattle.cc_run.specs.Modes.Listing.{listing_promise}
+use Rattle.cc_list.specs.Listing.{listing_promise}
 use Rattle.cc_run.specs.Modes.Making.{making_promise}
 use Rattle.cc_run.specs.Modes.Modelling.{modelling_promise}
 use Rattle.cc_run.specs.Modes.Surely.{sure_promise}
-use Rattle.cc_run.specs.Promises.{Promise, refused_words}
-use Rattle.cc_run.specs.Tasks.{request_of}
+use Rattle.cc_list.specs.Promises.{Promise, refused_words}
+use Rattle.cc_list.specs.Tasks.{request_of}
 use Rattle.cc_words.specs.Requests.{Request, ToList, ToCheck, ToMake, ToExplain, ToConvert, ToExport, ToModel, ToCheckModels, ToBeSure, ToCheckSure, ToListGenerally, ToCheckGeneral}
 use Rattle.cc_words.specs.Words.{Text}
 

@@ -13,7 +13,8 @@ use Rattle.cc_run.specs.Modes.CheckingGeneral.{named_for_general}
 use Rattle.cc_run.specs.Modes.CheckingSure.{named_to_check}
 use Rattle.cc_run.specs.Modes.Generally.{named_generally}
 use Rattle.cc_run.specs.Modes.Surely.{named_surely}
-use Rattle.cc_run.specs.Tasks.{Named, checked_by, made_files, made_named, named_alone, named_by, named_from, named_in, named_to}
+use Rattle.cc_list.specs.Tasks.{Named, named_by}
+use Rattle.cc_run.specs.Naming.{checked_by, made_files, made_named, named_alone, named_from, named_in, named_to}
 use Rattle.cc_tell.specs.Steps.{Called, IsCalm}
 use Rattle.cc_words.specs.Requests.{Request, ToList, ToCheck, ToMake, ToExplain, ToConvert, ToExport, ToModel, ToCheckModels, ToBeSure, ToCheckSure, ToListGenerally, ToCheckGeneral}
 use Rattle.cc_words.specs.Words.{Text}
@@ -69,9 +70,9 @@ IsFileOf (ToCheckSure checking) file = file ≡ checking.file
 IsFileOf (ToListGenerally generally) file = file ≡ generally.file
 IsFileOf (ToCheckGeneral checking) file = file ≡ checking.file
 
--- a description is read for it
+-- a description is read for it, by what is common to the modes besides list mode
 abbrev pub AsksDescription : Request → Type 0
-AsksDescription (ToList listing) = Unit {0}
+AsksDescription (ToList listing) = ⊥
 AsksDescription (ToCheck checking) = Unit {0}
 AsksDescription (ToMake size budget) = Unit {0}
 AsksDescription (ToExplain explaining) = Unit {0}
@@ -87,7 +88,7 @@ AsksDescription (ToCheckGeneral checking) = Unit {0}
 -- It asks a query of the description, and is refused just as its steps and its key are. An export is refused for its horizon besides,
 -- and what asks for certain atoms or by the definition of a model, or judges a log of these, for a claim.
 abbrev pub AsksQuery : Request → Type 0
-AsksQuery (ToList listing) = Unit {0}
+AsksQuery (ToList listing) = ⊥
 AsksQuery (ToCheck checking) = Unit {0}
 AsksQuery (ToMake size budget) = Unit {0}
 AsksQuery (ToExplain explaining) = ⊥
@@ -99,21 +100,6 @@ AsksQuery (ToBeSure surely) = ⊥
 AsksQuery (ToCheckSure checking) = ⊥
 AsksQuery (ToListGenerally generally) = ⊥
 AsksQuery (ToCheckGeneral checking) = ⊥
-
--- its numbers are within their bounds
-abbrev pub IsWithin : Request → Type 0
-IsWithin (ToList listing) = IfSome listing.count (λ count. 1 ≤ count) × (listing.budget ≤ 2000000)
-IsWithin (ToCheck checking) = Unit {0}
-IsWithin (ToMake size budget) = (1 ≤ size) × (budget ≤ 2000000)
-IsWithin (ToExplain explaining) = Unit {0}
-IsWithin (ToConvert converting) = Unit {0}
-IsWithin (ToExport exporting) = Unit {0}
-IsWithin (ToModel modelling) = IfSome modelling.count (λ count. 1 ≤ count) × (modelling.budget ≤ 2000000)
-IsWithin (ToCheckModels checking) = Unit {0}
-IsWithin (ToBeSure surely) = surely.budget ≤ 2000000
-IsWithin (ToCheckSure checking) = Unit {0}
-IsWithin (ToListGenerally generally) = IfSome generally.count (λ count. 1 ≤ count) × (generally.budget ≤ 2000000)
-IsWithin (ToCheckGeneral checking) = Unit {0}
 
 -- the files that it opens behind those of the description
 abbrev pub opens_behind : Request → List Text

@@ -10,7 +10,7 @@ use Rattle.cc_defs.specs.Resolved.{Query}
 use Rattle.cc_describe.specs.declared.description.Described.{Described}
 use Rattle.cc_ports.specs.Moments.{Moment}
 use Rattle.cc_run.specs.Modes.Surely.{EndsSurely, claim_refusal, sure_text}
-use Rattle.cc_run.specs.Tasks.{asked_refusal, query_named}
+use Rattle.cc_list.specs.Tasks.{asked_refusal, query_named}
 use Rattle.cc_sure.specs.Accepted.{IsWritableTold}
 use Rattle.cc_sure.specs.SureRuns.{IsFairSure, SureRun, sure_horizon}
 use Rattle.cc_sure.specs.Sures.{IsSureOf, Stands, SureView}

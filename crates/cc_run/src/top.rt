@@ -8,30 +8,31 @@ ghost use Rattle.cc_describe.specs.Describing.{Describes, SaysAll, AsksFormulas,
 ghost use Rattle.cc_ports.specs.Calls.{Call, names_begun, names_opened, with_calls};
 ghost use Rattle.cc_ports.specs.Contents.{Rose};
 ghost use Rattle.cc_ports.specs.Moments.{Moment};
-ghost use Rattle.cc_run.specs.Answers.{Answered, counts};
-ghost use Rattle.cc_run.specs.Names.{BeginsAsked, OpensAsked};
-ghost use Rattle.cc_run.specs.Preparing.{IsSearchable, StandsFor};
+ghost use Rattle.cc_list.specs.Answers.{Answered, counts};
+ghost use Rattle.cc_list.specs.Names.{BeginsAsked, OpensAsked};
+ghost use Rattle.cc_list.specs.Preparing.{IsSearchable, StandsFor};
 ghost use Rattle.cc_run.specs.Promised.{promise_of, promised};
-ghost use Rattle.cc_run.specs.Promises.{IsEndStatus, names_log};
-ghost use Rattle.cc_run.specs.Requested.{AsksDescription, AsksQuery, IsFileOf, IsWithin, Reads, named_of, opens_behind, source_of};
+ghost use Rattle.cc_list.specs.Promises.{IsEndStatus, names_log};
+ghost use Rattle.cc_list.specs.Bounds.{IsWithin};
+ghost use Rattle.cc_run.specs.Requested.{AsksDescription, AsksQuery, IsFileOf, Reads, named_of, opens_behind, source_of};
 ghost use Rattle.cc_run.specs.Requested as requested;
-ghost use Rattle.cc_run.specs.Stops.{Prints, PrintsAsked};
-ghost use Rattle.cc_run.specs.Tasks.{IsTask};
+ghost use Rattle.cc_list.specs.Stops.{Prints, PrintsAsked};
+ghost use Rattle.cc_list.specs.Tasks.{IsTask};
 ghost use Rattle.cc_sorts.specs.Tables.{IsSignatureFor};
 ghost use Rattle.cc_tell.specs.Steps.{IsFresh};
 ghost use Rattle.cc_words.specs.Requests.{Request, ToMake};
 ghost use Rattle.cc_words.specs.Views.{plain_request, plain_text};
 
-use crate::asking::{Prepared, prepare};
 use crate::modes::{
-    check, convert, export, general, general_check, list, make, models, models_check, sure,
-    sure_check, why,
+    check, convert, export, general, general_check, make, models, models_check, sure, sure_check,
+    why,
 };
 use bumpalo::Bump;
 use cc_arena::Terms;
 use cc_defs::{Fault, Refusal};
 use cc_describe::laws::has_places;
 use cc_describe::{DescribeStop, Described, Heads, describe};
+use cc_list::{Prepared, list, prepare};
 use cc_make::{TextDesk, make_text};
 use cc_ports::{Desk, Files, StillDesk};
 use cc_tell::{Status, Stop, file_named, refuse, tell_stop};
@@ -110,7 +111,7 @@ fn answer_asked<D: Desk>(alloc: Global, desk: &mut D, asked: &Asked<'_>) -> Resu
         result }
 {
     match asked {
-        Asked::List(list) => answer_file(alloc, desk, asked, list.file),
+        Asked::List(asked) => list(alloc, desk, asked),
         Asked::Check(check) => answer_file(alloc, desk, asked, check.file),
         Asked::Make { size, .. } => answer_made(alloc, desk, asked, *size),
         Asked::Explain(explain) => answer_file(alloc, desk, asked, explain.file),
@@ -234,7 +235,6 @@ fn answer_read<D: Desk>(
 {
     match asked {
         Asked::Explain(explain) => why::explain(alloc, desk, described, explain.key),
-        Asked::List(_) => answer_query(alloc, desk, asked, described),
         Asked::Check(_) => answer_query(alloc, desk, asked, described),
         Asked::Make { .. } => answer_query(alloc, desk, asked, described),
         Asked::Convert(_) => answer_query(alloc, desk, asked, described),
@@ -243,6 +243,7 @@ fn answer_read<D: Desk>(
         Asked::CheckSure(check) => sure_check::check(alloc, desk, described, check),
         Asked::General(asked) => general::general(alloc, desk, described, asked),
         Asked::CheckGeneral(check) => general_check::check(alloc, desk, described, check),
+        Asked::List(_) => unreachable!(),
         Asked::Models(_) => unreachable!(),
         Asked::CheckModels(_) => unreachable!(),
     }
@@ -346,12 +347,12 @@ fn answer_prepared<D: Desk>(
         (D.seen desk.new) result }
 {
     match asked {
-        Asked::List(list) => list::list(alloc, desk, described, list, prepared),
         Asked::Check(check) => check::check(alloc, desk, described, check, &prepared),
         Asked::Make { size, budget } => {
             make::make(alloc, desk, described, *size, *budget, prepared)
         }
         Asked::Convert(asked) => convert::convert(alloc, desk, described, asked, &prepared),
+        Asked::List(_) => unreachable!(),
         Asked::Explain(_) => unreachable!(),
         Asked::Export(_) => unreachable!(),
         Asked::Models(_) => unreachable!(),

@@ -5,16 +5,16 @@ ghost use Rattle.cc_asked.specs.Descriptions.{IsDescriptionOf};
 ghost use Rattle.cc_defs.specs.Description.{Description};
 ghost use Rattle.cc_defs.specs.Resolved.{Query as QueryAsked, plain_query};
 ghost use Rattle.cc_describe.specs.Describing.{AsksFormulas, HasForms};
-ghost use Rattle.cc_run.specs.Preparing.{IsSearchable, StandsFor};
+ghost use Rattle.cc_list.specs.Preparing.{IsSearchable, StandsFor};
 ghost use Rattle.cc_run.specs.Sures.{IsClaimFault, IsUnclaimed, claimed, claimed_named};
-ghost use Rattle.cc_run.specs.Tasks as tasks;
+ghost use Rattle.cc_list.specs.Tasks as tasks;
 ghost use Rattle.cc_sorts.specs.Tables.{IsSignatureFor};
 ghost use Rattle.cc_words.specs.Views.{plain_text};
 
-use crate::asking::{Prepared, prepare, query_named};
 use cc_arena::Terms;
 use cc_defs::{Fault, Query, Refusal};
 use cc_describe::Described;
+use cc_list::{Prepared, prepare, query_named};
 use std::alloc::Global;
 
 /// The refusal of a query with a claim.

@@ -5,17 +5,17 @@ ghost use Rattle.cc_asked.specs.Descriptions.{IsWideDescriptionOf};
 ghost use Rattle.cc_defs.specs.Resolved.{Query as QueryAsked, plain_query};
 ghost use Rattle.cc_describe.specs.Describing.{AsksFormulas, HasWideForms};
 ghost use Rattle.cc_run.specs.Generals.{IsWideFault, IsWideUnclaimed};
-ghost use Rattle.cc_run.specs.Preparing.{IsSearchableWide, StandsForWide};
+ghost use Rattle.cc_run.specs.Generals.{IsSearchableWide, StandsForWide};
 ghost use Rattle.cc_sorts.specs.Tables.{IsSignatureFor};
 ghost use Rattle.cc_wide.specs.WideLaws.{WideDescription};
 ghost use Rattle.cc_words.specs.Views.{plain_text};
 
-use crate::asking::query_asked;
 use crate::unclaimed::claim_named;
+use crate::wide_laws::wide_laws_of;
 use cc_arena::{GroundQuery, Terms};
-use cc_asked::wide_laws_of;
 use cc_defs::Fault;
 use cc_describe::Described;
+use cc_list::query_asked;
 use cc_wide::WideGround;
 use std::alloc::Global;
 

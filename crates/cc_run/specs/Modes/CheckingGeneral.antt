@@ -14,10 +14,10 @@ use Rattle.cc_describe.specs.Places.{Files}
 use Rattle.cc_general.specs.GeneralLogs.{ProvesHistories, general_subject}
 use Rattle.cc_run.specs.Modes.CheckingSure.{MayEndCheckingSure}
 use Rattle.cc_run.specs.Modes.Generally.{NamesWide, RefusesGenerally}
-use Rattle.cc_run.specs.Promises.{Promise}
-use Rattle.cc_run.specs.Tasks.{Named}
-use Rattle.cc_run.specs.Wholes.{Whole}
-use Rattle.cc_tell.specs.SilentVerdicts.{silent_verdict_line, silent_verdict_status}
+use Rattle.cc_list.specs.Promises.{Promise}
+use Rattle.cc_list.specs.Tasks.{Named}
+use Rattle.cc_list.specs.Wholes.{Whole}
+use Rattle.cc_tell_modes.specs.SilentVerdicts.{silent_verdict_line, silent_verdict_status}
 use Rattle.cc_tell.specs.Givens.{only_out}
 use Rattle.cc_wide.specs.WideLaws.{WideDescription}
 use Rattle.cc_words.specs.Requests.{GeneralChecking}

@@ -12,8 +12,8 @@ use Rattle.cc_judge.specs.Single.{BlocksAll, subject_over}
 use Rattle.cc_print.specs.Models.{models_verdict_line}
 use Rattle.cc_run.specs.Modes.Checking.{MayEndChecking, verdict_status}
 use Rattle.cc_run.specs.Modes.Modelling.{IsCnfIn, RefusesCnf}
-use Rattle.cc_run.specs.Promises.{Promise}
-use Rattle.cc_run.specs.Wholes.{Whole}
+use Rattle.cc_list.specs.Promises.{Promise}
+use Rattle.cc_list.specs.Wholes.{Whole}
 use Rattle.cc_tell.specs.Givens.{only_out}
 use Rattle.cc_words.specs.Requests.{ModelChecking}
 use Rattle.cc_words.specs.Words.{Text}

@@ -13,14 +13,14 @@ use Rattle.cc_describe.specs.declared.heads.Heads.TheVariants as heads
 use Rattle.cc_describe.specs.Describing.{AreToOpen}
 use Rattle.cc_describe.specs.Places.{Files}
 use Rattle.cc_run.specs.Modes.Surely.{NamesUnclaimed, RefusesClaimed}
-use Rattle.cc_run.specs.Promises.{Promise, IsEndStatus}
-use Rattle.cc_run.specs.Tasks.{Named}
-use Rattle.cc_run.specs.Wholes.{Whole}
+use Rattle.cc_list.specs.Promises.{Promise, IsEndStatus}
+use Rattle.cc_list.specs.Tasks.{Named}
+use Rattle.cc_list.specs.Wholes.{Whole}
 use Rattle.cc_sure.specs.SureLogs.{RefutesAtoms, sure_subject}
 use Rattle.cc_tell.specs.declared.status.Status.{Status}
 use Rattle.cc_tell.specs.declared.status.Status.TheVariants as statuses
 use Rattle.cc_tell.specs.Givens.{only_out}
-use Rattle.cc_tell.specs.SilentVerdicts.{silent_verdict_line, silent_verdict_status}
+use Rattle.cc_tell_modes.specs.SilentVerdicts.{silent_verdict_line, silent_verdict_status}
 use Rattle.cc_words.specs.Requests.{SureChecking}
 use Rattle.cc_words.specs.Words.{Text}
 

@@ -14,9 +14,10 @@ use Rattle.cc_judge.specs.Judging.{IsVerdictWithin}
 use Rattle.cc_print.specs.Verdicts.{verdict_line}
 use Rattle.cc_query.specs.Accepted.{subject_of}
 use Rattle.cc_run.specs.Modes.Checking.{MayEndChecking, NamesLog, RefusesChecking, verdict_status}
-use Rattle.cc_run.specs.Promises.{Promise}
-use Rattle.cc_run.specs.Tasks.{Task, checked_by}
-use Rattle.cc_run.specs.Wholes.{Whole}
+use Rattle.cc_list.specs.Promises.{Promise}
+use Rattle.cc_list.specs.Tasks.{Task}
+use Rattle.cc_run.specs.Naming.{checked_by}
+use Rattle.cc_list.specs.Wholes.{Whole}
 use Rattle.cc_tell.specs.declared.status.Status.{Status}
 use Rattle.cc_tell.specs.declared.status.Status.TheVariants as statuses
 use Rattle.cc_tell.specs.Givens.{only_out}

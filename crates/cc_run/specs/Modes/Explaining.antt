@@ -12,13 +12,14 @@ use Rattle.cc_describe.specs.FirstRefusal.{file_named}
 use Rattle.cc_describe.specs.Places.{Files, Place, opened_in}
 use Rattle.cc_ground.specs.Counting.{laws_refusal}
 use Rattle.cc_print.specs.Keys.{IsKeyText}
-use Rattle.cc_run.specs.Promises.{Promise, IsEndStatus}
-use Rattle.cc_run.specs.Tasks.{AreRead, RefusesDescription, description_in, named_to, refusal_without_place}
-use Rattle.cc_run.specs.Wholes.{Whole}
+use Rattle.cc_list.specs.Promises.{Promise, IsEndStatus}
+use Rattle.cc_list.specs.Tasks.{AreRead, RefusesDescription, description_in, refusal_without_place}
+use Rattle.cc_run.specs.Naming.{named_to}
+use Rattle.cc_list.specs.Wholes.{Whole}
 use Rattle.cc_tell.specs.declared.status.Status.{Status}
 use Rattle.cc_tell.specs.declared.status.Status.TheVariants as statuses
 use Rattle.cc_tell.specs.Givens.{only_out}
-use Rattle.cc_tell.specs.CauseTexts.{why_text}
+use Rattle.cc_tell_modes.specs.CauseTexts.{why_text}
 use Rattle.cc_theory.specs.Theories.{rules_refusal}
 use Rattle.cc_words.specs.Requests.{Explaining}
 use Rattle.cc_words.specs.Words.{Text}

@@ -16,9 +16,10 @@ use Rattle.cc_dimacs.specs.CnfTexts.{export_of}
 use Rattle.cc_ground.specs.Counting.{laws_refusal}
 use Rattle.cc_laws.specs.Questions.{step_refusal}
 use Rattle.cc_query.specs.Sessions.{refusal_at}
-use Rattle.cc_run.specs.Promises.{Promise, IsEndStatus}
-use Rattle.cc_run.specs.Tasks.{AreRead, RefusesDescription, description_in, named_from, queries_in, query_named, query_refusal}
-use Rattle.cc_run.specs.Wholes.{Whole}
+use Rattle.cc_list.specs.Promises.{Promise, IsEndStatus}
+use Rattle.cc_list.specs.Tasks.{AreRead, RefusesDescription, description_in, queries_in, query_named, query_refusal}
+use Rattle.cc_run.specs.Naming.{named_from}
+use Rattle.cc_list.specs.Wholes.{Whole}
 use Rattle.cc_tell.specs.declared.status.Status.{Status}
 use Rattle.cc_tell.specs.declared.status.Status.TheVariants as statuses
 use Rattle.cc_tell.specs.Givens.{only_out}

@@ -18,11 +18,11 @@ use Rattle.cc_general.specs.GeneralTold.{ending_of, general_log, general_told}
 use Rattle.cc_tell.specs.declared.status.Status.{Status}
 use Rattle.cc_tell.specs.declared.status.Status.TheVariants as statuses
 use Rattle.cc_run.specs.Modes.Surely.{claim_refusal}
-use Rattle.cc_run.specs.Promises.{Promise, IsEndStatus}
+use Rattle.cc_list.specs.Promises.{Promise, IsEndStatus}
 use Rattle.cc_tell.specs.ErrLines.{refusal_text}
 use Rattle.cc_tell.specs.Statuses.{status_of}
-use Rattle.cc_run.specs.Tasks.{AreReadFor, Named, RefusesDescriptionFor, queries_in, query_named, query_refusal}
-use Rattle.cc_run.specs.Wholes.{Whole}
+use Rattle.cc_list.specs.Tasks.{AreReadFor, Named, RefusesDescriptionFor, queries_in, query_named, query_refusal}
+use Rattle.cc_list.specs.Wholes.{Whole}
 use Rattle.cc_wide.specs.WideLaws.{WideDescription, frame}
 use Rattle.cc_wide_ground.specs.WideGrounding.{wide_laws_refusal}
 use Rattle.cc_words.specs.Requests.{Generally}

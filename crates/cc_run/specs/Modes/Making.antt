@@ -2,10 +2,11 @@
 use Rattle.std.specs.Prelude.{◌≡◌, ℕ, false, [], None, IsNone}
 use Rattle.cc_defs.specs.Runs.{Run}
 use Rattle.cc_describe.specs.Places.{Files}
-use Rattle.cc_run.specs.Promises.{Promise, IsEndStatus}
-use Rattle.cc_run.specs.Searching.{IsTold}
-use Rattle.cc_run.specs.Tasks.{IsTask, RefusesNamed, Task, made_files, made_named}
-use Rattle.cc_run.specs.Wholes.{Whole}
+use Rattle.cc_list.specs.Promises.{Promise, IsEndStatus}
+use Rattle.cc_list.specs.Searching.{IsTold}
+use Rattle.cc_list.specs.Tasks.{IsTask, RefusesNamed, Task}
+use Rattle.cc_run.specs.Naming.{made_files, made_named}
+use Rattle.cc_list.specs.Wholes.{Whole}
 use Rattle.cc_tell.specs.declared.status.Status.{Status}
 use Rattle.cc_tell.specs.declared.status.Status.TheVariants as statuses
 use Rattle.cc_tell.specs.Manners.{Summed}

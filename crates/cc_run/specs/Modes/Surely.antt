@@ -12,9 +12,9 @@ use Rattle.cc_describe.specs.declared.heads.Heads.TheVariants as heads
 use Rattle.cc_describe.specs.Describing.{AreToOpen}
 use Rattle.cc_describe.specs.FirstRefusal.{file_named}
 use Rattle.cc_describe.specs.Places.{Files, Place, opened_in}
-use Rattle.cc_run.specs.Promises.{Promise, IsEndStatus}
-use Rattle.cc_run.specs.Tasks.{AreRead, Named, RefusesDescription, RefusesQuery, asked_refusal, description_in, queries_in, query_named}
-use Rattle.cc_run.specs.Wholes.{Whole}
+use Rattle.cc_list.specs.Promises.{Promise, IsEndStatus}
+use Rattle.cc_list.specs.Tasks.{AreRead, Named, RefusesDescription, RefusesQuery, asked_refusal, description_in, queries_in, query_named}
+use Rattle.cc_list.specs.Wholes.{Whole}
 use Rattle.cc_sure.specs.Accepted.{IsUnspent, never_told}
 use Rattle.cc_sure.specs.SureLogs.{sure_subject}
 use Rattle.cc_sure.specs.SureRuns.{IsFairSure, ReachesSureLimit, SureEnding, Complete, NoneAtAll, Spent, SureRun, sure_horizon}
@@ -22,7 +22,7 @@ use Rattle.cc_sure.specs.SureTold.{SureTold, NoneAt, ExampleIs, NeverSo, Answers
 use Rattle.cc_tell.specs.declared.status.Status.{Status}
 use Rattle.cc_tell.specs.declared.status.Status.TheVariants as statuses
 use Rattle.cc_tell.specs.ErrLines.{refusal_text}
-use Rattle.cc_tell.specs.SureTexts.{answer_lines, ending_line}
+use Rattle.cc_tell_modes.specs.SureTexts.{answer_lines, ending_line}
 use Rattle.cc_words.specs.Requests.{Surely}
 use Rattle.cc_words.specs.Words.{Text}
 

@@ -18,10 +18,11 @@ ghost use Rattle.cc_run.specs.Converted.{AreLeft, HasLeft, HasOpened, IsJudged, 
 ghost use Rattle.cc_run.specs.Modes.Checking as checks;
 ghost use Rattle.cc_run.specs.Modes.Checking.{NamesLog};
 ghost use Rattle.cc_run.specs.Modes.Converting.{converting_promise};
-ghost use Rattle.cc_run.specs.Preparing.{IsSearchable, StandsFor};
-ghost use Rattle.cc_run.specs.Stops.{Prints};
-ghost use Rattle.cc_run.specs.Tasks.{IsTask, checked_by, named_in};
-ghost use Rattle.cc_run.specs.Telling.{counts_of, task_to_check};
+ghost use Rattle.cc_list.specs.Preparing.{IsSearchable, StandsFor};
+ghost use Rattle.cc_list.specs.Stops.{Prints};
+ghost use Rattle.cc_list.specs.Tasks.{IsTask};
+ghost use Rattle.cc_run.specs.Naming.{checked_by, named_in};
+ghost use Rattle.cc_list.specs.Telling.{counts_of, task_to_check};
 ghost use Rattle.cc_tell.specs.Steps.{Step};
 ghost use Rattle.cc_tell.specs.Givens.{given_to};
 ghost use Rattle.cc_tell.specs.Tellers.{IsCounted};
@@ -29,7 +30,6 @@ ghost use Rattle.cc_words.specs.Requests.{Converting, ToConvert};
 ghost use Rattle.cc_words.specs.Views.{plain_request};
 ghost use Rattle.cc_words.specs.declared.asked.Asked.TheVariants as requests;
 
-use crate::asking::Prepared;
 use crate::modes::check::tell_verdict;
 use cc_check::laws::other_versions_are_judged_alike;
 use cc_convert::laws::accepted_logs_say_lines;
@@ -37,6 +37,7 @@ use cc_convert::{behind_header, said_line, version_of};
 use cc_defs::{Fault, LimitAt, LogLine, LogVerdict, OutOfMemory, Refusal, Version};
 use cc_describe::Described;
 use cc_judge::judge;
+use cc_list::Prepared;
 use cc_ports::{Desk, ReadStop, read_all};
 use cc_query::form_at;
 use cc_tell::{

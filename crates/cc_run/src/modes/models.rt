@@ -8,7 +8,7 @@ ghost use Rattle.cc_query.specs.Searches.{HasMore, Stands, left_of};
 ghost use Rattle.cc_run.specs.CnfForms.{IsFormOf};
 ghost use Rattle.cc_run.specs.Modes.Modelling.{modelling_promise, IsCnfIn};
 ghost use Rattle.cc_run.specs.ModelsTold.{AreAt, AreWithin, IsAt, TellsFind, TellsListing, told_of};
-ghost use Rattle.cc_run.specs.Stops.{Prints, PrintsAsked};
+ghost use Rattle.cc_list.specs.Stops.{Prints, PrintsAsked};
 ghost use Rattle.cc_tell.specs.Givens.{nothing};
 ghost use Rattle.cc_words.specs.Requests.{Modelling, ToModel};
 ghost use Rattle.cc_words.specs.Views.{plain_request};
@@ -19,10 +19,8 @@ use cc_defs::{Fault, Version};
 use cc_form::Form;
 use cc_ports::Desk;
 use cc_query::{Find, Search};
-use cc_tell::{
-    Lister, Status, Stop, begin_log, give_heading, refuse, tell_clause, tell_end, tell_limit,
-    tell_model,
-};
+use cc_tell::{Status, Stop, begin_log, refuse, tell_limit};
+use cc_tell_modes::{Lister, give_heading, tell_clause, tell_end, tell_model};
 use cc_words::ModelsAsked;
 use std::alloc::Global;
 

@@ -8,7 +8,7 @@ ghost use Rattle.cc_run.specs.CnfForms.{IsFormOf};
 ghost use Rattle.cc_run.specs.Modes.Checking as checks;
 ghost use Rattle.cc_run.specs.Modes.CheckingModels.{models_checking_promise};
 ghost use Rattle.cc_run.specs.Modes.Modelling.{IsCnfIn};
-ghost use Rattle.cc_run.specs.Stops.{Prints, PrintsAsked};
+ghost use Rattle.cc_list.specs.Stops.{Prints, PrintsAsked};
 ghost use Rattle.cc_tell.specs.Steps.{Step};
 ghost use Rattle.cc_tell.specs.Givens.{only_out};
 ghost use Rattle.cc_words.specs.Requests.{ModelChecking, ToCheckModels};

@@ -8,21 +8,22 @@ ghost use Rattle.cc_describe.specs.declared.heads.Heads.TheVariants as heads;
 ghost use Rattle.cc_describe.specs.Describing.{AsksFormulas, Describes, HasForms, SaysAll};
 ghost use Rattle.cc_run.specs.Modes.CheckingSure.{sure_checking_promise, NamesSureLog, named_to_check};
 ghost use Rattle.cc_run.specs.Modes.Surely.{NamesUnclaimed};
-ghost use Rattle.cc_run.specs.Preparing.{IsSearchable, StandsFor};
-ghost use Rattle.cc_run.specs.Stops.{Prints};
+ghost use Rattle.cc_list.specs.Preparing.{IsSearchable, StandsFor};
+ghost use Rattle.cc_list.specs.Stops.{Prints};
 ghost use Rattle.cc_words.specs.Requests.{SureChecking, ToCheckSure};
 ghost use Rattle.cc_words.specs.Views.{plain_request};
 ghost use Rattle.cc_words.specs.declared.asked.Asked.TheVariants as requests;
 
-use crate::asking::Prepared;
 use crate::unclaimed::prepare_unclaimed;
 use bumpalo::Bump;
 use cc_arena::Terms;
 use cc_defs::{Fault, LimitAt, Refusal};
 use cc_describe::Described;
+use cc_list::Prepared;
 use cc_ports::{Desk, ReadStop, read_all};
 use cc_sure::check_sure;
-use cc_tell::{Status, Stop, file_named, refuse, tell_silent_verdict};
+use cc_tell::{Status, Stop, file_named, refuse};
+use cc_tell_modes::tell_silent_verdict;
 use cc_words::CheckSureAsked;
 use std::alloc::Global;
 

@@ -9,7 +9,7 @@ ghost use Rattle.cc_describe.specs.declared.heads.Heads.TheVariants as heads;
 ghost use Rattle.cc_describe.specs.Describing.{Describes, HasForms, SaysAll};
 ghost use Rattle.cc_run.specs.Explained.{IsLookedAt, TellsRow};
 ghost use Rattle.cc_run.specs.Modes.Explaining.{explaining_promise, no_history_line};
-ghost use Rattle.cc_run.specs.Stops.{Prints};
+ghost use Rattle.cc_list.specs.Stops.{Prints};
 ghost use Rattle.cc_sorts.specs.Tables.{IsSignatureFor};
 ghost use Rattle.cc_tell.specs.Steps.{Step};
 ghost use Rattle.cc_tell.specs.Givens.{only_out};
@@ -24,7 +24,8 @@ use cc_defs::laws::positions_have_sizes;
 use cc_defs::{Fault, Key};
 use cc_describe::Described;
 use cc_ports::{Desk, To};
-use cc_tell::{Status, Stop, file_named, give, refuse, tell_causes};
+use cc_tell::{Status, Stop, file_named, give, refuse};
+use cc_tell_modes::tell_causes;
 use cc_why::why;
 use std::alloc::Global;
 

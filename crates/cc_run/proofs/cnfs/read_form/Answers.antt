@@ -1,6 +1,6 @@
 use Rattle.std.proofs.Common.{ℕ, ◌≤◌, length, refl, subst, ap, Err}
 use Rattle.cc_run.specs.CnfForms.{IsFormFault}
-use Rattle.cc_run.proofs.Callings.{called_reads, ok_no_err}
+use Rattle.cc_list.proofs.Callings.{called_reads, ok_no_err}
 use Rattle.cc_run.proofs.CnfReadings.{fault_refuses_none, form_refused, memory_is_no_fault, memory_refuses_none, memory_unread, refused_no_fault}
 use Rattle.cc_run.proofs.cnfs.read_form.Goals as goal
 

@@ -1,5 +1,5 @@
 use Rattle.cc_run.proofs.Explained.{exit_grounding, exit_row, exit_rules}
-use Rattle.cc_run.proofs.Named.{signature_of}
+use Rattle.cc_list.proofs.Named.{signature_of}
 use Rattle.cc_run.proofs.rows.look_at.Goals as goal
 
 pub returns-in_err-laws-clause-refused : goal.returns-in_err-laws-clause-refused

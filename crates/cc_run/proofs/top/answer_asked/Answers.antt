@@ -1,16 +1,23 @@
-use Rattle.std.proofs.Common.{ap, refl, sym}
+use Rattle.std.proofs.Common.{ap, refl, subst, sym}
+use Rattle.cc_list.specs.Bounds.{IsWithin}
+use Rattle.cc_words.specs.declared.asked.Asked.{Asked}
 use Rattle.cc_words.specs.declared.asked.Asked.TheVariants as requests
 use Rattle.cc_words.specs.Views.{plain_request}
 use Rattle.cc_run.proofs.Readings.{file_as, modelling_by, models_checking_by, printed_as, some_request}
 use Rattle.cc_run.proofs.top.answer_asked.Goals as goal
 
+pub list-requires-clause-count : goal.list-requires-clause-count
+list-requires-clause-count g c = (subst (λ (asked : Asked). IsWithin (plain_request asked)) c.in-List.is c.requires.within).0
+
+pub list-requires-clause-budget : goal.list-requires-clause-budget
+list-requires-clause-budget g c = (subst (λ (asked : Asked). IsWithin (plain_request asked)) c.in-List.is c.requires.within).1
+
 pub returns-in-List : goal.returns-in-List
-returns-in-List g c =
-    c.answer_file.ensures (file_as c.args.asked.now (requests.List c.in-List.list) c.in-List.list.file.now c.in-List.is refl)
+returns-in-List g c = printed_as _ _ _ _ c.list.result (ap some_request (sym c.in-List.is)) c.list.ensures
 
 pub returns-in-Check : goal.returns-in-Check
 returns-in-Check g c =
-    c.answer_file-in-Check.ensures (file_as c.args.asked.now (requests.Check c.in-Check.check) c.in-Check.check.file.now c.in-Check.is refl)
+    c.answer_file.ensures (file_as c.args.asked.now (requests.Check c.in-Check.check) c.in-Check.check.file.now c.in-Check.is refl)
 
 pub returns-in-Make : goal.returns-in-Make
 returns-in-Make g c = c.answer_made.ensures c.in-Make.budget (ap plain_request c.in-Make.is)

@@ -5,8 +5,8 @@ use Rattle.cc_run.proofs.Promised.{may_be_refused}
 use Rattle.cc_run.specs.Promised.{promise_of}
 use Rattle.cc_run.specs.Requested.{AsksDescription, heads_of, named_of, opens_behind, source_of}
 use Rattle.cc_tell.specs.declared.status.Stop.TheVariants as run_stops
-use Rattle.cc_run.proofs.Callings.{memory_not_read, memory_not_write, ok_no_err, read_not_write, refused_is_no_fault}
-use Rattle.cc_run.proofs.Outcomes.{files_stay, prints_after_read, prints_opened, prints_refusal, prints_stopped}
+use Rattle.cc_list.proofs.Callings.{memory_not_read, memory_not_write, ok_no_err, read_not_write, refused_is_no_fault}
+use Rattle.cc_list.proofs.Outcomes.{files_stay, prints_after_read, prints_opened, prints_refusal, prints_stopped}
 use Rattle.cc_run.proofs.Readings.{first_of, opened_all, opened_refused, reads_as, refuses_description}
 use Rattle.cc_run.proofs.top.answer_described.Goals as goal
 

@@ -4,7 +4,7 @@ use Rattle.cc_make.specs.Single.{each_is}
 use Rattle.cc_run.specs.Modes.Making.{making_promise}
 use Rattle.cc_run.specs.Requested.{heads_of}
 use Rattle.cc_words.specs.Requests.{ToMake}
-use Rattle.cc_run.proofs.Outcomes.{prints_lacking, prints_opened}
+use Rattle.cc_list.proofs.Outcomes.{prints_lacking, prints_opened}
 use Rattle.cc_run.proofs.Readings.{no_rose, opens_made, printed_as, reads_made}
 use Rattle.cc_run.proofs.top.answer_made.Goals as goal
 

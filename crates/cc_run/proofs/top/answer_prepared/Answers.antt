@@ -1,18 +1,10 @@
 use Rattle.std.proofs.Common.{◌∙◌, None, ap, refl, subst, sym}
 use Rattle.cc_run.specs.Requested.{AsksQuery}
 use Rattle.cc_words.specs.declared.asked.Asked.{Asked}
-use Rattle.cc_words.specs.Requests.{ToCheck, ToConvert, ToList, ToMake}
+use Rattle.cc_words.specs.Requests.{ToCheck, ToConvert, ToMake}
 use Rattle.cc_words.specs.Views.{plain_request}
-use Rattle.cc_run.proofs.Readings.{checking_by, converting_by, listing_by, prints_request, task_as}
+use Rattle.cc_run.proofs.Readings.{checking_by, converting_by, prints_request, task_as}
 use Rattle.cc_run.proofs.top.answer_prepared.Goals as goal
-
-pub returns-in-List : goal.returns-in-List
-returns-in-List g c = λ request d q same is of task.
-    let list = c.in-List.list in
-    let listing = listing_by list in
-    let e = sym (ap plain_request c.in-List.is) ∙ same in
-    prints_request (ToList listing) request _ _ c.list.result e
-    (c.list.ensures listing d q refl is of (task_as _ (ToList listing) request _ e (task list.count list.budget)))
 
 pub returns-in-Check : goal.returns-in-Check
 returns-in-Check g c = λ request d q same is of task.
@@ -30,7 +22,7 @@ returns-in-Make g c = λ request d q same is of task.
     (c.make.ensures d q is of (task_as _ (ToMake size budget) request _ e (task None budget)))
 
 pub unreachable-requires : goal.unreachable-requires
-unreachable-requires g c = subst (λ (asked : Asked). AsksQuery (plain_request asked)) c.in-Explain.is c.requires.query
+unreachable-requires g c = subst (λ (asked : Asked). AsksQuery (plain_request asked)) c.in-List.is c.requires.query
 
 pub returns-in-Convert : goal.returns-in-Convert
 returns-in-Convert g c = λ request d q same is of task.

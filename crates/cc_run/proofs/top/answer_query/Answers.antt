@@ -1,12 +1,13 @@
 use Rattle.std.proofs.Common.{Some, ◌∙◌, ap, refl, subst}
 use Rattle.cc_describe.specs.declared.heads.Heads.TheVariants as heads
 use Rattle.cc_describe.specs.FirstRefusal.{file_named}
+use Rattle.cc_list.proofs.Described.{description_is, is_read, task_read}
 use Rattle.cc_run.proofs.Promised.{may_be_refused}
 use Rattle.cc_run.specs.Promised.{promise_of}
 use Rattle.cc_run.specs.Requested.{AsksQuery, named_of, opens_behind, source_of}
-use Rattle.cc_run.specs.Tasks.{description_in}
-use Rattle.cc_run.proofs.Outcomes.{prints_lacking, prints_refusal}
-use Rattle.cc_run.proofs.Readings.{description_is, is_read, named_as, refused_as, refuses_named, task_read}
+use Rattle.cc_list.specs.Tasks.{description_in}
+use Rattle.cc_list.proofs.Outcomes.{prints_lacking, prints_refusal}
+use Rattle.cc_run.proofs.Readings.{named_as, refused_as, refuses_named}
 use Rattle.cc_run.proofs.top.answer_query.Goals as goal
 
 pub answer_prepared-requires-clause-of : goal.answer_prepared-requires-clause-of

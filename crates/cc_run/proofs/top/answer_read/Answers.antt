@@ -1,5 +1,6 @@
 use Rattle.std.proofs.Common.{◌∙◌, ap, refl, subst, sym}
-use Rattle.cc_run.specs.Requested.{AsksQuery, IsWithin, heads_of}
+use Rattle.cc_list.specs.Bounds.{IsWithin}
+use Rattle.cc_run.specs.Requested.{AsksQuery, heads_of}
 use Rattle.cc_words.specs.declared.asked.Asked.{Asked}
 use Rattle.cc_words.specs.Requests.{ToBeSure, ToCheckGeneral, ToCheckSure, ToExplain, ToExport, ToListGenerally}
 use Rattle.cc_words.specs.Views.{plain_request}
@@ -14,10 +15,7 @@ returns-in-Explain g c = λ request same describes.
     (c.explain.ensures explaining refl (describes_as _ (ToExplain explaining) request _ e describes))
 
 pub answer_query-requires-clause-query : goal.answer_query-requires-clause-query
-answer_query-requires-clause-query g c = subst (λ (asked : Asked). AsksQuery (plain_request asked)) (sym c.in-List.is) tt
-
-pub answer_query-requires-in-Check-clause-query : goal.answer_query-requires-in-Check-clause-query
-answer_query-requires-in-Check-clause-query g c = subst (λ (asked : Asked). AsksQuery (plain_request asked)) (sym c.in-Check.is) tt
+answer_query-requires-clause-query g c = subst (λ (asked : Asked). AsksQuery (plain_request asked)) (sym c.in-Check.is) tt
 
 pub answer_query-requires-in-Make-clause-query : goal.answer_query-requires-in-Make-clause-query
 answer_query-requires-in-Make-clause-query g c = subst (λ (asked : Asked). AsksQuery (plain_request asked)) (sym c.in-Make.is) tt
@@ -62,19 +60,11 @@ pub check-requires-clause-says : goal.check-requires-clause-says
 check-requires-clause-says g c = says_as _ _ c.args.described.now c.in-CheckSure.is c.requires.says
 
 pub answer_query-requires-clause-says : goal.answer_query-requires-clause-says
-answer_query-requires-clause-says g c = says_as _ _ c.args.described.now c.in-List.is c.requires.says
-
-pub returns-in-List : goal.returns-in-List
-returns-in-List g c = λ request same describes.
-    c.answer_query.ensures request same
-    (describes_for _ _ request c.args.described.now (ap heads_of (sym same ∙ ap plain_request c.in-List.is)) describes)
-
-pub answer_query-requires-in-Check-clause-says : goal.answer_query-requires-in-Check-clause-says
-answer_query-requires-in-Check-clause-says g c = says_as _ _ c.args.described.now c.in-Check.is c.requires.says
+answer_query-requires-clause-says g c = says_as _ _ c.args.described.now c.in-Check.is c.requires.says
 
 pub returns-in-Check : goal.returns-in-Check
 returns-in-Check g c = λ request same describes.
-    c.answer_query-in-Check.ensures request same
+    c.answer_query.ensures request same
     (describes_for _ _ request c.args.described.now (ap heads_of (sym same ∙ ap plain_request c.in-Check.is)) describes)
 
 pub answer_query-requires-in-Make-clause-says : goal.answer_query-requires-in-Make-clause-says

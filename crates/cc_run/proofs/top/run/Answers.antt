@@ -1,9 +1,9 @@
 use Rattle.std.proofs.Common.{map, refl, string_bytes, subst}
-use Rattle.cc_run.specs.Promises.{IsEndStatus}
-use Rattle.cc_run.specs.Tasks.{request_of}
-use Rattle.cc_run.proofs.Outcomes.{names_ended, names_stopped, run_ended, run_stopped}
+use Rattle.cc_list.specs.Promises.{IsEndStatus}
+use Rattle.cc_list.specs.Tasks.{request_of}
+use Rattle.cc_list.proofs.Outcomes.{names_ended, names_stopped, run_ended, run_stopped}
 use Rattle.cc_run.proofs.Promised.{ends_as_it_may}
-use Rattle.cc_run.proofs.Callings.{told_ends_nothing}
+use Rattle.cc_list.proofs.Callings.{told_ends_nothing}
 use Rattle.cc_run.proofs.top.run.Goals as goal
 
 pub returns-in-Err-clause-answer : goal.returns-in-Err-clause-answer

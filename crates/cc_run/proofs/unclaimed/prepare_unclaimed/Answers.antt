@@ -1,7 +1,7 @@
 use Rattle.std.proofs.Common.{◌∙◌, ap, map, sym}
 use Rattle.cc_defs.specs.Resolved.{plain_query}
 use Rattle.cc_run.specs.Sures.{claimed_named}
-use Rattle.cc_run.specs.Tasks.{query_named}
+use Rattle.cc_list.specs.Tasks.{query_named}
 use Rattle.cc_words.specs.Views.{plain_text}
 use Rattle.cc_run.proofs.Exported.{handed_on}
 use Rattle.cc_run.proofs.Claims.{claim_fault, ground_unclaimed, none_claimed, unkeyed_fault}

@@ -3,7 +3,7 @@ use Rattle.cc_arena.specs.GroundViews.{plain_ground_query}
 use Rattle.cc_defs.specs.Refusals.{IsRefusedBy}
 use Rattle.cc_defs.specs.Resolved.{plain_query}
 use Rattle.cc_run.specs.Sures.{claimed_named}
-use Rattle.cc_run.specs.Tasks.{query_named}
+use Rattle.cc_list.specs.Tasks.{query_named}
 use Rattle.cc_words.specs.Views.{plain_text}
 use Rattle.cc_run.proofs.Claims.{none_claimed}
 use Rattle.cc_run.proofs.WideClaims.{bare, bare_is, framed_unclaimed, laws_fault, query_fault, refusal_framed, stands_framed, wide_claim_fault, wide_unrefused}

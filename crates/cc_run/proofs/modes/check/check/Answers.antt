@@ -1,10 +1,10 @@
 use Rattle.std.proofs.Common.{[], ◌∷◌, ap, Err}
 use Rattle.cc_run.specs.Modes.Checking.{NamesLog, checking_promise}
-use Rattle.cc_run.specs.Telling.{task_to_check}
+use Rattle.cc_list.specs.Telling.{task_to_check}
 use Rattle.cc_tell.specs.declared.status.Stop.TheVariants as stops
-use Rattle.cc_run.proofs.Callings.{called_reads, first_all, limit_is_no_fault, memory_not_read, memory_not_write, ok_no_err, read_not_write}
+use Rattle.cc_list.proofs.Callings.{called_reads, first_all, limit_is_no_fault, memory_not_read, memory_not_write, ok_no_err, read_not_write}
 use Rattle.cc_run.proofs.Judged.{as_checking, is_log_of, log_is, refuses_long}
-use Rattle.cc_run.proofs.Outcomes.{files_stay, prints_after_read, prints_refusal, prints_stopped}
+use Rattle.cc_list.proofs.Outcomes.{files_stay, prints_after_read, prints_refusal, prints_stopped}
 use Rattle.cc_run.proofs.modes.check.check.Goals as goal
 
 pub returns-in-Ok : goal.returns-in-Ok

@@ -1,9 +1,9 @@
 use Rattle.std.proofs.Common.{[], refl}
 use Rattle.cc_defs.specs.declared.refusal.Fault.TheVariants as faults
 use Rattle.cc_run.specs.Modes.Checking.{checking_promise}
-use Rattle.cc_run.specs.Telling.{task_to_check}
-use Rattle.cc_run.proofs.Judged.{as_checking, fault_as, is_said, refuses_section}
-use Rattle.cc_run.proofs.Outcomes.{prints_lacking, prints_refusal, prints_verdict}
+use Rattle.cc_list.specs.Telling.{task_to_check}
+use Rattle.cc_run.proofs.Judged.{as_checking, fault_as, is_said, prints_verdict, refuses_section}
+use Rattle.cc_list.proofs.Outcomes.{prints_lacking, prints_refusal}
 use Rattle.cc_run.proofs.modes.check.check_log.Goals as goal
 
 pub returns-in-Ok : goal.returns-in-Ok

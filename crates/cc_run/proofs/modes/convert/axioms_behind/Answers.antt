@@ -1,6 +1,6 @@
 use Rattle.std.proofs.Common.{subst}
 use Rattle.cc_convert.specs.Saying.{OpensWithin}
-use Rattle.cc_run.specs.Telling.{counts_of}
+use Rattle.cc_list.specs.Telling.{counts_of}
 use Rattle.cc_run.proofs.Converted.{section_counted}
 use Rattle.cc_run.proofs.modes.convert.axioms_behind.Goals as goal
 

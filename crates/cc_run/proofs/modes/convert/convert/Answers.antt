@@ -1,13 +1,13 @@
 use Rattle.std.proofs.Common.{[], ◌∷◌, ap, Err}
 use Rattle.cc_run.specs.Modes.Checking.{NamesLog}
 use Rattle.cc_run.specs.Modes.Converting.{converting_promise}
-use Rattle.cc_run.specs.Tasks.{checked_by}
-use Rattle.cc_run.specs.Telling.{task_to_check}
+use Rattle.cc_run.specs.Naming.{checked_by}
+use Rattle.cc_list.specs.Telling.{task_to_check}
 use Rattle.cc_tell.specs.declared.status.Stop.TheVariants as stops
 use Rattle.cc_words.specs.Requests.{Converting}
-use Rattle.cc_run.proofs.Callings.{called_reads, first_all, limit_is_no_fault, memory_not_read, memory_not_write, ok_no_err, read_not_write}
+use Rattle.cc_list.proofs.Callings.{called_reads, first_all, limit_is_no_fault, memory_not_read, memory_not_write, ok_no_err, read_not_write}
 use Rattle.cc_run.proofs.Judged.{as_converting, converting_is, is_log_of, refuses_long}
-use Rattle.cc_run.proofs.Outcomes.{files_stay, prints_after_read, prints_refusal, prints_stopped}
+use Rattle.cc_list.proofs.Outcomes.{files_stay, prints_after_read, prints_refusal, prints_stopped}
 use Rattle.cc_run.proofs.modes.convert.convert.Goals as goal
 
 pub returns-in-Ok : goal.returns-in-Ok

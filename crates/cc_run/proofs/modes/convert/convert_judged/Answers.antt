@@ -3,7 +3,7 @@ use Rattle.cc_arena.specs.GroundViews.{plain_ground_query}
 use Rattle.cc_run.specs.Modes.Converting.{converting_promise}
 use Rattle.cc_words.specs.Words.{Text}
 use Rattle.cc_run.proofs.Converted.{last_short, prints_accepted_log, prints_refused_log, says_of}
-use Rattle.cc_run.proofs.Outcomes.{prints_unbegun}
+use Rattle.cc_list.proofs.Outcomes.{prints_unbegun}
 use Rattle.cc_run.proofs.modes.convert.convert_judged.Goals as goal
 
 pub give_accepted-requires-clause-says : goal.give_accepted-requires-clause-says

@@ -1,10 +1,10 @@
 use Rattle.std.proofs.Common.{[], refl}
 use Rattle.cc_defs.specs.declared.refusal.Fault.TheVariants as faults
 use Rattle.cc_run.specs.Modes.Converting.{converting_promise}
-use Rattle.cc_run.specs.Tasks.{checked_by}
-use Rattle.cc_run.specs.Telling.{task_to_check}
+use Rattle.cc_run.specs.Naming.{checked_by}
+use Rattle.cc_list.specs.Telling.{task_to_check}
 use Rattle.cc_run.proofs.Judged.{as_converting, fault_as, is_said, refuses_section}
-use Rattle.cc_run.proofs.Outcomes.{prints_lacking, prints_refusal}
+use Rattle.cc_list.proofs.Outcomes.{prints_lacking, prints_refusal}
 use Rattle.cc_run.proofs.modes.convert.convert_log.Goals as goal
 
 pub convert_judged-requires-clause-within : goal.convert_judged-requires-clause-within

@@ -5,7 +5,7 @@ use Rattle.cc_defs.specs.declared.log.LogLine.{LogLine}
 use Rattle.cc_defs.specs.LogVersions.{line_bytes, other_version, own_behind}
 use Rattle.cc_defs.specs.LogTexts.{IsFormed}
 use Rattle.cc_ports.specs.declared.desk.To.TheVariants as outputs
-use Rattle.cc_run.specs.Telling.{counts_of}
+use Rattle.cc_list.specs.Telling.{counts_of}
 use Rattle.cc_tell.specs.Tellers.{IsWritable}
 use Rattle.cc_tell.proofs.GivenSteps.{one_as, step_again, step_done, step_nothing}
 use Rattle.cc_run.proofs.Converted.{bytes_behind, left_behind, one_left, shorter, writable}

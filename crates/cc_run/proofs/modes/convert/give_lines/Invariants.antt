@@ -3,7 +3,7 @@ use Rattle.cc_arena.specs.GroundViews.{plain_ground_query}
 use Rattle.cc_defs.specs.declared.log.LogLine.{LogLine}
 use Rattle.cc_defs.specs.Description.{Description}
 use Rattle.cc_defs.specs.Resolved.{Query}
-use Rattle.cc_run.specs.Asking.{AreOf}
+use Rattle.cc_list.specs.Asking.{AreOf}
 use Rattle.cc_run.specs.Converted.{AreLeft}
 use Rattle.cc_run.proofs.Converted.{TellsLines}
 use Rattle.cc_run.proofs.modes.convert.give_lines.Given as goal

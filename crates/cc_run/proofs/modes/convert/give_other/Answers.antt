@@ -2,7 +2,7 @@ use Rattle.std.proofs.Common.{ap, sym, ◌∙◌, ◌++◌}
 use Rattle.cc_defs.specs.declared.log.Version.{Version}
 use Rattle.cc_defs.specs.LogVersions.{header_of, lines_bytes, other_version}
 use Rattle.cc_ports.specs.declared.desk.To.TheVariants as outputs
-use Rattle.cc_run.specs.Telling.{counts_of}
+use Rattle.cc_list.specs.Telling.{counts_of}
 use Rattle.cc_tell.specs.Givens.{given_to}
 use Rattle.cc_tell.proofs.GivenSteps.{cut_one, step_as, then_one}
 use Rattle.cc_run.proofs.Converted.{says_left}

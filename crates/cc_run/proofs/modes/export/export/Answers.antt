@@ -1,12 +1,13 @@
 use Rattle.std.proofs.Common.{◌∙◌, [], ap, refl}
 use Rattle.cc_describe.specs.declared.heads.Heads.TheVariants as heads
 use Rattle.cc_describe.specs.FirstRefusal.{file_named}
+use Rattle.cc_list.proofs.Described.{description_is, is_read}
 use Rattle.cc_run.specs.Modes.Exporting.{exporting_promise}
-use Rattle.cc_run.specs.Tasks.{description_in}
+use Rattle.cc_list.specs.Tasks.{description_in}
 use Rattle.cc_words.specs.Requests.{ToExport}
 use Rattle.cc_run.proofs.Exported.{prints_exported, refuses_export}
-use Rattle.cc_run.proofs.Outcomes.{prints_lacking, prints_refusal}
-use Rattle.cc_run.proofs.Readings.{describes_as, description_is, exporting_by, is_read, prints_for}
+use Rattle.cc_list.proofs.Outcomes.{prints_lacking, prints_refusal}
+use Rattle.cc_run.proofs.Readings.{describes_as, exporting_by, prints_for}
 use Rattle.cc_run.proofs.modes.export.export.Goals as goal
 
 pub exported_form-requires-clause-of : goal.exported_form-requires-clause-of

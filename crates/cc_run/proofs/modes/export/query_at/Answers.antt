@@ -7,9 +7,9 @@ use Rattle.cc_defs.specs.Resolved.{plain_query}
 use Rattle.cc_laws.specs.Laws.{HasFormulas}
 use Rattle.cc_words.specs.Views.{plain_text}
 use Rattle.cc_run.specs.Modes.Exporting.{horizon_refusal}
-use Rattle.cc_run.specs.Tasks.{query_named}
+use Rattle.cc_list.specs.Tasks.{query_named}
 use Rattle.cc_run.proofs.Exported.{asked_at, at_horizon, few_steps, handed_on, refused_inside, refused_tried}
-use Rattle.cc_run.proofs.Named.{in_named, refused_nodes, symbols_of}
+use Rattle.cc_list.proofs.Named.{in_named, refused_nodes, symbols_of}
 use Rattle.cc_run.proofs.modes.export.query_at.Goals as goal
 
 pub returns-in_err-query-clause-refused : goal.returns-in_err-query-clause-refused

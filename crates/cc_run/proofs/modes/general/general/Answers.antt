@@ -1,11 +1,12 @@
 use Rattle.std.proofs.Common.{◌∙◌, [], ap, refl}
 use Rattle.cc_describe.specs.declared.heads.Heads.TheVariants as heads
 use Rattle.cc_describe.specs.FirstRefusal.{file_named}
+use Rattle.cc_list.proofs.Described.{is_read}
 use Rattle.cc_run.specs.Modes.Generally.{general_promise, named_generally, wide_in}
 use Rattle.cc_words.specs.Requests.{ToListGenerally}
 use Rattle.cc_run.proofs.GenerallyTold.{generally_is, named_as, refuses_asked}
-use Rattle.cc_run.proofs.Outcomes.{prints_lacking, prints_refusal}
-use Rattle.cc_run.proofs.Readings.{describes_as, generally_by, is_read, prints_for, wide_description_is}
+use Rattle.cc_list.proofs.Outcomes.{prints_lacking, prints_refusal}
+use Rattle.cc_run.proofs.Readings.{describes_as, generally_by, prints_for, wide_description_is}
 use Rattle.cc_run.proofs.WideClaims.{names_wide, refuses_generally}
 use Rattle.cc_run.proofs.modes.general.general.Goals as goal
 

@@ -5,7 +5,7 @@ use Rattle.cc_tell.specs.declared.status.Status.TheVariants as statuses
 use Rattle.cc_words.specs.Requests.{Generally}
 use Rattle.cc_words.specs.Views.{plain_text}
 use Rattle.cc_run.proofs.GenerallyTold.{begins_generally, general_log_named, generally_is, prints_generally, told_as}
-use Rattle.cc_run.proofs.Outcomes.{prints_unbegun}
+use Rattle.cc_list.proofs.Outcomes.{prints_unbegun}
 use Rattle.cc_run.proofs.SurelyTold.{range_low}
 use Rattle.cc_wide.specs.WideLaws.{frame}
 use Rattle.cc_run.proofs.modes.general.list_generally.Goals as goal

@@ -1,6 +1,6 @@
 use Rattle.std.proofs.Common.{refl, subst, sym}
 use Rattle.cc_general.specs.Generals.{IsRightFault, IsWritable}
-use Rattle.cc_run.proofs.DescribedNames.{framed_names}
+use Rattle.cc_list.proofs.DescribedNames.{framed_names}
 use Rattle.cc_run.proofs.GeneralFinds.{event_told, goes_next, limit_told, memory_told, stopped_next}
 use Rattle.cc_wide.specs.WideLaws.{frame}
 use Rattle.cc_run.proofs.modes.general.tell_next.Goals as goal

@@ -1,12 +1,13 @@
 use Rattle.std.proofs.Common.{◌∙◌, [], ◌∷◌, ap, refl}
 use Rattle.cc_describe.specs.declared.heads.Heads.TheVariants as heads
 use Rattle.cc_describe.specs.FirstRefusal.{file_named}
+use Rattle.cc_list.proofs.Described.{is_read}
 use Rattle.cc_run.specs.Modes.CheckingGeneral.{general_checking_promise, named_for_general}
 use Rattle.cc_run.specs.Modes.Generally.{wide_in}
 use Rattle.cc_words.specs.Requests.{GeneralChecking, ToCheckGeneral}
 use Rattle.cc_run.proofs.GenerallyChecked.{checking_is, named_as, refuses_named}
-use Rattle.cc_run.proofs.Outcomes.{prints_lacking, prints_refusal}
-use Rattle.cc_run.proofs.Readings.{describes_as, general_checking_by, is_read, prints_for, wide_description_is}
+use Rattle.cc_list.proofs.Outcomes.{prints_lacking, prints_refusal}
+use Rattle.cc_run.proofs.Readings.{describes_as, general_checking_by, prints_for, wide_description_is}
 use Rattle.cc_run.proofs.WideClaims.{names_wide, refuses_generally}
 use Rattle.cc_run.proofs.modes.general_check.check.Goals as goal
 

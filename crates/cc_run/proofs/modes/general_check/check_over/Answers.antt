@@ -1,8 +1,8 @@
 use Rattle.std.proofs.Common.{[], ◌∷◌, ap, Err}
 use Rattle.cc_run.specs.Modes.CheckingGeneral.{NamesGeneralLog, general_checking_promise}
 use Rattle.cc_tell.specs.declared.status.Stop.TheVariants as stops
-use Rattle.cc_run.proofs.Callings.{called_reads, first_all, limit_is_no_fault, memory_not_read, memory_not_write, ok_no_err, read_not_write}
-use Rattle.cc_run.proofs.Outcomes.{files_stay, prints_after_read, prints_refusal, prints_stopped}
+use Rattle.cc_list.proofs.Callings.{called_reads, first_all, limit_is_no_fault, memory_not_read, memory_not_write, ok_no_err, read_not_write}
+use Rattle.cc_list.proofs.Outcomes.{files_stay, prints_after_read, prints_refusal, prints_stopped}
 use Rattle.cc_run.proofs.GenerallyChecked.{is_log, refuses_long}
 use Rattle.cc_run.proofs.modes.general_check.check_over.Goals as goal
 

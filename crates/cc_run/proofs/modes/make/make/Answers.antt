@@ -1,7 +1,8 @@
 use Rattle.std.proofs.Common.{refl}
+use Rattle.cc_run.proofs.Made.{makes_for}
 use Rattle.cc_run.specs.Modes.Making.{making_promise}
 use Rattle.cc_tell.specs.Manners.{Summed}
-use Rattle.cc_run.proofs.Outcomes.{makes_for, prints_made}
+use Rattle.cc_list.proofs.Outcomes.{prints_made}
 use Rattle.cc_run.proofs.modes.make.make.Goals as goal
 
 pub returns : goal.returns

@@ -5,7 +5,7 @@ use Rattle.cc_tell.specs.declared.status.Status.TheVariants as statuses
 use Rattle.cc_words.specs.Requests.{Modelling}
 use Rattle.cc_words.specs.Views.{plain_text}
 use Rattle.cc_run.proofs.ModelRuns.{begins_models, form_within, listing_as, modelling_is, models_log, prints_listing}
-use Rattle.cc_run.proofs.Outcomes.{prints_lacking, prints_unbegun}
+use Rattle.cc_list.proofs.Outcomes.{prints_lacking, prints_unbegun}
 use Rattle.cc_run.proofs.modes.models.list_models.Goals as goal
 
 pub returns-in_err-search : goal.returns-in_err-search

@@ -2,10 +2,10 @@ use Rattle.std.proofs.Common.{[], ◌∷◌, ap, Err, refl}
 use Rattle.cc_run.specs.Modes.Modelling.{IsCnfIn, modelling_promise}
 use Rattle.cc_tell.specs.declared.status.Stop.TheVariants as stops
 use Rattle.cc_words.specs.Requests.{Modelling}
-use Rattle.cc_run.proofs.Callings.{memory_not_read, memory_not_write, ok_no_err, read_not_write}
+use Rattle.cc_list.proofs.Callings.{memory_not_read, memory_not_write, ok_no_err, read_not_write}
 use Rattle.cc_run.proofs.CnfReadings.{refused_is_no_fault}
 use Rattle.cc_run.proofs.ModelRuns.{always, modelling_is, cnf_as, models_refuse}
-use Rattle.cc_run.proofs.Outcomes.{files_stay, prints_after_read, prints_opened, prints_refusal, prints_stopped}
+use Rattle.cc_list.proofs.Outcomes.{files_stay, prints_after_read, prints_opened, prints_refusal, prints_stopped}
 use Rattle.cc_run.proofs.modes.models.models.Goals as goal
 
 pub returns-in-Ok : goal.returns-in-Ok

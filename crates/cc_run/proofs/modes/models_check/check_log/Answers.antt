@@ -1,5 +1,5 @@
 use Rattle.cc_run.proofs.ModelRuns.{prints_models_verdict}
-use Rattle.cc_run.proofs.Outcomes.{prints_lacking}
+use Rattle.cc_list.proofs.Outcomes.{prints_lacking}
 use Rattle.cc_run.proofs.modes.models_check.check_log.Goals as goal
 use Rattle.cc_run.specs.Modes.CheckingModels.{models_checking_promise}
 

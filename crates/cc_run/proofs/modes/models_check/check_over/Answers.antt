@@ -2,9 +2,9 @@ use Rattle.std.proofs.Common.{◌≡◌, [], ◌∷◌, Some, ap, Err}
 use Rattle.cc_run.specs.Modes.CheckingModels.{models_checking_promise}
 use Rattle.cc_run.specs.Modes.Modelling.{IsCnfIn}
 use Rattle.cc_tell.specs.declared.status.Stop.TheVariants as stops
-use Rattle.cc_run.proofs.Callings.{called_reads, first_all, limit_is_no_fault, memory_not_read, memory_not_write, ok_no_err, read_not_write}
+use Rattle.cc_list.proofs.Callings.{called_reads, first_all, limit_is_no_fault, memory_not_read, memory_not_write, ok_no_err, read_not_write}
 use Rattle.cc_run.proofs.ModelRuns.{checks_refuse_long, log_there}
-use Rattle.cc_run.proofs.Outcomes.{files_stay, prints_after_read, prints_refusal, prints_stopped}
+use Rattle.cc_list.proofs.Outcomes.{files_stay, prints_after_read, prints_refusal, prints_stopped}
 use Rattle.cc_run.proofs.modes.models_check.check_over.Goals as goal
 
 pub returns-in-Ok : goal.returns-in-Ok

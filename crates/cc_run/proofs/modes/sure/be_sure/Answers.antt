@@ -4,7 +4,7 @@ use Rattle.cc_run.specs.Modes.Surely.{sure_promise}
 use Rattle.cc_tell.specs.declared.status.Status.TheVariants as statuses
 use Rattle.cc_words.specs.Requests.{Surely}
 use Rattle.cc_words.specs.Views.{plain_text}
-use Rattle.cc_run.proofs.Outcomes.{prints_unbegun}
+use Rattle.cc_list.proofs.Outcomes.{prints_unbegun}
 use Rattle.cc_run.proofs.SurelyTold.{begins_surely, prints_surely, range_low, surely_is, surely_log, told_as}
 use Rattle.cc_run.proofs.modes.sure.be_sure.Goals as goal
 

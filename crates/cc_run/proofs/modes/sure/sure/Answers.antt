@@ -1,11 +1,12 @@
 use Rattle.std.proofs.Common.{◌∙◌, [], ap, refl}
 use Rattle.cc_describe.specs.declared.heads.Heads.TheVariants as heads
 use Rattle.cc_describe.specs.FirstRefusal.{file_named}
+use Rattle.cc_list.proofs.Described.{description_is, is_read}
 use Rattle.cc_run.specs.Modes.Surely.{named_surely, sure_promise}
-use Rattle.cc_run.specs.Tasks.{description_in}
+use Rattle.cc_list.specs.Tasks.{description_in}
 use Rattle.cc_words.specs.Requests.{ToBeSure}
-use Rattle.cc_run.proofs.Outcomes.{prints_lacking, prints_refusal}
-use Rattle.cc_run.proofs.Readings.{describes_as, description_is, is_read, prints_for, surely_by}
+use Rattle.cc_list.proofs.Outcomes.{prints_lacking, prints_refusal}
+use Rattle.cc_run.proofs.Readings.{describes_as, prints_for, surely_by}
 use Rattle.cc_run.proofs.SurelyTold.{named_as, refuses_surely, surely_is}
 use Rattle.cc_run.proofs.Claims.{names_unclaimed, refuses_claimed}
 use Rattle.cc_run.proofs.modes.sure.sure.Goals as goal

@@ -1,7 +1,7 @@
 use Rattle.std.proofs.Common.{◌∙◌, refl, subst}
 use Rattle.cc_sure.specs.Sures.{IsRightFault}
-use Rattle.cc_run.proofs.DescribedNames.{names_of}
-use Rattle.cc_run.proofs.Named.{signature_of}
+use Rattle.cc_list.proofs.DescribedNames.{names_of}
+use Rattle.cc_list.proofs.Named.{signature_of}
 use Rattle.cc_run.proofs.SureFinds.{event_told, goes_next, limit_told, memory_told}
 use Rattle.cc_run.proofs.SureTexts.{event_printable}
 use Rattle.cc_run.proofs.modes.sure.tell_next.Goals as goal

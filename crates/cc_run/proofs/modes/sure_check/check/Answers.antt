@@ -1,11 +1,12 @@
 use Rattle.std.proofs.Common.{◌∙◌, [], ◌∷◌, ap, refl}
 use Rattle.cc_describe.specs.declared.heads.Heads.TheVariants as heads
 use Rattle.cc_describe.specs.FirstRefusal.{file_named}
+use Rattle.cc_list.proofs.Described.{description_is, is_read}
 use Rattle.cc_run.specs.Modes.CheckingSure.{named_to_check, sure_checking_promise}
-use Rattle.cc_run.specs.Tasks.{description_in}
+use Rattle.cc_list.specs.Tasks.{description_in}
 use Rattle.cc_words.specs.Requests.{SureChecking, ToCheckSure}
-use Rattle.cc_run.proofs.Outcomes.{prints_lacking, prints_refusal}
-use Rattle.cc_run.proofs.Readings.{describes_as, description_is, is_read, prints_for, sure_checking_by}
+use Rattle.cc_list.proofs.Outcomes.{prints_lacking, prints_refusal}
+use Rattle.cc_run.proofs.Readings.{describes_as, prints_for, sure_checking_by}
 use Rattle.cc_run.proofs.SurelyChecked.{checking_is, named_as, refuses_named}
 use Rattle.cc_run.proofs.Claims.{names_unclaimed, refuses_claimed}
 use Rattle.cc_run.proofs.modes.sure_check.check.Goals as goal

@@ -1,5 +1,5 @@
 use Rattle.std.proofs.Common.{[], refl}
-use Rattle.cc_run.proofs.Outcomes.{prints_lacking, prints_refusal}
+use Rattle.cc_list.proofs.Outcomes.{prints_lacking, prints_refusal}
 use Rattle.cc_run.proofs.SurelyChecked.{prints_sure_verdict, refuses_section}
 use Rattle.cc_run.proofs.modes.sure_check.check_log.Goals as goal
 use Rattle.cc_run.specs.Modes.CheckingSure.{sure_checking_promise}

@@ -2,11 +2,11 @@ use Rattle.std.proofs.Common.{◌∙◌, [], ap, refl}
 use Rattle.cc_defs.specs.declared.refusal.Fault.TheVariants as faults
 use Rattle.cc_describe.specs.declared.heads.Heads.TheVariants as heads
 use Rattle.cc_describe.specs.FirstRefusal.{file_named}
+use Rattle.cc_list.proofs.Described.{description_is, is_read}
 use Rattle.cc_run.specs.Modes.Explaining.{explaining_promise}
-use Rattle.cc_run.specs.Tasks.{description_in}
+use Rattle.cc_list.specs.Tasks.{description_in}
 use Rattle.cc_run.proofs.Explained.{fault_as, looked_as, prints_explained, refuses_row}
-use Rattle.cc_run.proofs.Outcomes.{prints_lacking, prints_refusal}
-use Rattle.cc_run.proofs.Readings.{description_is, is_read}
+use Rattle.cc_list.proofs.Outcomes.{prints_lacking, prints_refusal}
 use Rattle.cc_run.proofs.modes.why.explain.Goals as goal
 
 pub explain_row-requires-clause-of : goal.explain_row-requires-clause-of

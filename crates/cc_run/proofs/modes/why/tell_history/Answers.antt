@@ -3,14 +3,14 @@ use Rattle.cc_defs.specs.Paths.{IsPath}
 use Rattle.cc_defs.specs.Resolved.{plain_base_law}
 use Rattle.cc_ports.specs.declared.desk.To.TheVariants as outputs
 use Rattle.cc_tell.specs.declared.status.Status.TheVariants as statuses
-use Rattle.cc_tell.specs.CauseTexts.{why_text}
+use Rattle.cc_tell_modes.specs.CauseTexts.{why_text}
 use Rattle.cc_tell.specs.Givens.{given_to}
 use Rattle.cc_why.specs.declared.cause.Cause.{Cause}
-use Rattle.cc_tell.proofs.CauseLines.{cause_each, row_atoms}
+use Rattle.cc_tell_modes.proofs.CauseLines.{cause_each, row_atoms}
 use Rattle.cc_tell.proofs.GivenSteps.{one_as, step_again, step_done, step_nothing}
-use Rattle.cc_run.proofs.DescribedNames.{laws_of, names_of}
+use Rattle.cc_list.proofs.DescribedNames.{laws_of, names_of}
 use Rattle.cc_run.proofs.Explained.{stopped_so, tells_history}
-use Rattle.cc_run.proofs.Named.{signature_of}
+use Rattle.cc_list.proofs.Named.{signature_of}
 use Rattle.cc_run.proofs.modes.why.tell_history.Goals as goal
 
 pub tell_causes-requires-clause-atoms : goal.tell_causes-requires-clause-atoms

@@ -1,0 +1,15 @@
+pub mod Answers
+pub mod Asking
+pub mod Bounds
+pub mod Laws
+pub mod Listing
+pub mod Names
+pub mod Preparing
+pub mod Promises
+pub mod Refusing
+pub mod Searching
+pub mod Stops
+pub mod Tasks
+pub mod Telling
+pub mod WholeRuns
+pub mod Wholes

@@ -1,0 +1,14 @@
+//! List mode, and what the modes have in common: what each promises, what words name of a description, and a search that is told event
+//! by event.
+#![tactic(auto)]
+
+mod asking;
+pub mod laws;
+mod listing;
+mod running;
+mod searching;
+
+pub use asking::{Prepared, prepare, query_asked, query_named};
+pub use listing::list;
+pub use running::run_list;
+pub use searching::search;

@@ -1,0 +1,45 @@
+//! The ground laws of a description whose heads may be of any form.
+ghost use Rattle.std.specs.Prelude.{◌≡◌, IfOk, IfErr, OnOk, None};
+ghost use Rattle.cc_asked.specs.Descriptions.{IsWideDescriptionOf};
+ghost use Rattle.cc_defs.specs.Refusals.{IsRefusedBy};
+ghost use Rattle.cc_describe.specs.Describing.{HasWideForms};
+ghost use Rattle.cc_rivals.specs.Wides.{AreWideLawsFor, AreWideLawsOf};
+ghost use Rattle.cc_sorts.specs.Tables.{IsSignatureFor};
+ghost use Rattle.cc_wide.specs.WideLaws.{WideDescription};
+ghost use Rattle.cc_wide_ground.specs.WideGrounding.{wide_laws_refusal};
+
+use cc_arena::Terms;
+use cc_defs::Fault;
+use cc_describe::Described;
+use cc_ground::laws::declared_have_own_values;
+use cc_wide::WideGround;
+use cc_wide_ground::ground_wide;
+use std::alloc::Global;
+
+/// The ground laws of a description whose heads may be of any form, as candidates and rivals ask for them: one for each instance
+/// of its laws, in order. Refuses more instances, then more nodes, than their limits (14, law instances, ground nodes), by the
+/// parts of all laws, and then by their heads.
+pub(crate) fn wide_laws_of<'a>(
+    alloc: Global,
+    described: &Described,
+    terms: &Terms<'a>,
+) -> Result<WideGround<'a>, Fault>
+    requires signature { IsSignatureFor described.now.table described.now.sig }
+    requires forms { HasWideForms described.now }
+    ensures fit { IfOk result (λ laws. AreWideLawsFor described.now.sig laws) }
+    ensures of { (w : WideDescription) → IsWideDescriptionOf described.now w →
+        IfOk result (λ laws. AreWideLawsOf described.now.sig laws w) }
+    ensures unrefused { (w : WideDescription) → IsWideDescriptionOf described.now w →
+        OnOk result (wide_laws_refusal w.universe w.laws ≡ None) }
+    ensures refused { (w : WideDescription) → IsWideDescriptionOf described.now w →
+        IfErr result (IsRefusedBy (wide_laws_refusal w.universe w.laws)) }
+{
+    declared_have_own_values();
+    ground_wide(
+        alloc,
+        &described.table,
+        &described.sig,
+        &described.wide,
+        terms,
+    )
+}
