@@ -12,6 +12,7 @@ use cc_defs::{
 use cc_describe::{DescribeStop, Described, Heads, describe};
 use cc_ground::ground;
 use cc_laws::{classify, definite};
+use cc_list::run_list;
 use cc_ports::{Files, MemoryDesk, RealDesk, To};
 use cc_run::{Status, run, run_still};
 use std::alloc::Global;
@@ -101,6 +102,13 @@ fn other_desks_run_too(rt: HostRuntime) -> Result<(), Fail> {
     Ok(())
 }
 
+/// A desk in memory with this text in a file, none of whose calls fails.
+fn calm_desk(alloc: Global, text: &str) -> Result<MemoryDesk, OutOfMemory> {
+    let fails = Nums::of(Vec::new(alloc));
+    let room = [65536, 65536, 65536];
+    MemoryDesk::new(alloc, one_file(alloc, text)?, fails, 4096, room)
+}
+
 /// Whether a desk in memory has this log behind a run of the words.
 fn logs_in_memory(
     alloc: Global,
@@ -108,13 +116,44 @@ fn logs_in_memory(
     text: &str,
     log: &[u8],
 ) -> Result<bool, OutOfMemory> {
-    let fails = Nums::of(Vec::new(alloc));
-    let room = [65536, 65536, 65536];
-    let mut desk = MemoryDesk::new(alloc, one_file(alloc, text)?, fails, 4096, room)?;
+    let mut desk = calm_desk(alloc, text)?;
     let status = run(alloc, words, &mut desk);
     let same = desk.written(To::Log) == log;
     drop(desk);
     Ok(status == Status::Right && same)
+}
+
+/// Whether list mode alone has the status of a run of the words, and gives what that gives.
+fn says_the_same_alone(alloc: Global, texts: &[&str]) -> Result<bool, OutOfMemory> {
+    let words = all_words(alloc, texts)?;
+    let mut alone = calm_desk(alloc, TWO_FLUENTS)?;
+    let mut desk = calm_desk(alloc, TWO_FLUENTS)?;
+    let same = run_list(alloc, &words, &mut alone) == Some(run(alloc, &words, &mut desk));
+    Ok(
+        same && alone.written(To::Out) == desk.written(To::Out)
+            && alone.written(To::Err) == desk.written(To::Err)
+            && alone.written(To::Log) == desk.written(To::Log),
+    )
+}
+
+#[test]
+fn list_mode_alone_says_the_same(rt: HostRuntime) -> Result<(), Fail> {
+    let alloc = rt.alloc();
+    assert!(rt; says_the_same_alone(alloc, &["--log", "l", "f.cc"])?);
+    assert!(rt; says_the_same_alone(alloc, &["--query", "none", "f.cc"])?);
+    assert!(rt; says_the_same_alone(alloc, &["absent.cc"])?);
+    assert!(rt; says_the_same_alone(alloc, &["--size", "1"])?);
+    Ok(())
+}
+
+#[test]
+fn list_mode_alone_leaves_other_modes(rt: HostRuntime) -> Result<(), Fail> {
+    let alloc = rt.alloc();
+    let words = all_words(alloc, &["--mode", "make", "--size", "1"])?;
+    let mut desk = calm_desk(alloc, TWO_FLUENTS)?;
+    assert!(rt; run_list(alloc, &words, &mut desk).is_none());
+    assert!(rt; desk.written(To::Out).len() == 0 && desk.written(To::Err).len() == 0);
+    Ok(())
 }
 
 // The machine's log holds what a desk in memory is given, and the description stays as it was.
