@@ -31,25 +31,25 @@ pub(crate) enum Declaration<'t, 's> {
 
 /// Adds the declarations of a statement, in the order of its text; none of a query, an include or a law.
 pub(crate) fn add_declarations<'t, 's>(
-    found: &mut Vec<Declaration<'t, 's>>,
     statement: &'t Statement<'s>,
+    found: &mut Vec<Declaration<'t, 's>>,
 ) -> Result<(), OutOfMemory>
     ensures { (file : ℕ) → OnOk result (plain_declarations file statement.now.line found.new.items
         ≡ plain_declarations file statement.now.line found.old.items
         ++ declarations_of file (plain_statement statement.now)) }
 {
     match &*statement.part {
-        Part::Sorts(items) => add_sort_items(found, items),
-        Part::Objects(items) => add_object_items(found, items),
-        Part::Variables(items) => add_variable_items(found, items),
-        Part::Constants(items) => add_const_items(found, items),
+        Part::Sorts(items) => add_sort_items(items, found),
+        Part::Objects(items) => add_object_items(items, found),
+        Part::Variables(items) => add_variable_items(items, found),
+        Part::Constants(items) => add_const_items(items, found),
         _ => Ok(()),
     }
 }
 
 fn add_sort_items<'t, 's>(
-    found: &mut Vec<Declaration<'t, 's>>,
     list: &'t List<SortItem<'s>>,
+    found: &mut Vec<Declaration<'t, 's>>,
 ) -> Result<(), OutOfMemory>
     ensures { (file line : ℕ) →
         OnOk result (plain_declarations file line found.new.items ≡ plain_declarations
@@ -57,14 +57,14 @@ fn add_sort_items<'t, 's>(
 {
     let items = list.items();
     for item in items {
-        add_sort_item(found, item)?;
+        add_sort_item(item, found)?;
     }
     Ok(())
 }
 
 fn add_object_items<'t, 's>(
-    found: &mut Vec<Declaration<'t, 's>>,
     list: &'t List<ObjItem<'s>>,
+    found: &mut Vec<Declaration<'t, 's>>,
 ) -> Result<(), OutOfMemory>
     ensures { (file line : ℕ) →
         OnOk result (plain_declarations file line found.new.items ≡ plain_declarations
@@ -72,14 +72,14 @@ fn add_object_items<'t, 's>(
 {
     let items = list.items();
     for item in items {
-        add_members(found, item.members.items(), item.sort)?;
+        add_members(item.members.items(), item.sort, found)?;
     }
     Ok(())
 }
 
 fn add_variable_items<'t, 's>(
-    found: &mut Vec<Declaration<'t, 's>>,
     list: &'t List<ListItem<'s>>,
+    found: &mut Vec<Declaration<'t, 's>>,
 ) -> Result<(), OutOfMemory>
     ensures { (file line : ℕ) →
         OnOk result (plain_declarations file line found.new.items ≡ plain_declarations file
@@ -87,14 +87,14 @@ fn add_variable_items<'t, 's>(
 {
     let items = list.items();
     for item in items {
-        add_variables(found, item.names.items(), item.sort)?;
+        add_variables(item.names.items(), item.sort, found)?;
     }
     Ok(())
 }
 
 fn add_const_items<'t, 's>(
-    found: &mut Vec<Declaration<'t, 's>>,
     list: &'t List<ConstItem<'s>>,
+    found: &mut Vec<Declaration<'t, 's>>,
 ) -> Result<(), OutOfMemory>
     ensures { (file line : ℕ) → OnOk result
         (plain_declarations file line found.new.items ≡ plain_declarations file line found.old.items
@@ -102,40 +102,40 @@ fn add_const_items<'t, 's>(
 {
     let items = list.items();
     for item in items {
-        add_const_item(found, item)?;
+        add_const_item(item, found)?;
     }
     Ok(())
 }
 
 fn add_const_item<'t, 's>(
-    found: &mut Vec<Declaration<'t, 's>>,
     item: &'t ConstItem<'s>,
+    found: &mut Vec<Declaration<'t, 's>>,
 ) -> Result<(), OutOfMemory>
     ensures { (file line : ℕ) →
         OnOk result (plain_declarations file line found.new.items ≡ plain_declarations
         file line found.old.items ++ constant_declarations file line (plain_const_item item.now)) }
 {
-    add_constants(found, item.shapes.items(), &item.kind)?;
+    add_constants(item.shapes.items(), &item.kind, found)?;
     put_last(found, Declaration::Kinds(&item.shapes, &item.kind))
 }
 
 fn add_sort_item<'t, 's>(
-    found: &mut Vec<Declaration<'t, 's>>,
     item: &SortItem<'s>,
+    found: &mut Vec<Declaration<'t, 's>>,
 ) -> Result<(), OutOfMemory>
     ensures { (file line : ℕ) →
         OnOk result (plain_declarations file line found.new.items ≡ plain_declarations
         file line found.old.items ++ sort_declarations (plain_sort_item item.now)) }
 {
     match item {
-        SortItem::Names(names) => add_sorts(found, names.items()),
-        SortItem::Chain(names) => add_chain(found, names.items()),
+        SortItem::Names(names) => add_sorts(names.items(), found),
+        SortItem::Chain(names) => add_chain(names.items(), found),
     }
 }
 
 fn add_sorts<'t, 's>(
-    found: &mut Vec<Declaration<'t, 's>>,
     names: &[&'s str],
+    found: &mut Vec<Declaration<'t, 's>>,
 ) -> Result<(), OutOfMemory>
     ensures { (file line : ℕ) →
         OnOk result (plain_declarations file line found.new.items ≡ plain_declarations
@@ -149,8 +149,8 @@ fn add_sorts<'t, 's>(
 
 /// Each link of a chain is below the one before it.
 fn add_chain<'t, 's>(
-    found: &mut Vec<Declaration<'t, 's>>,
     names: &[&'s str],
+    found: &mut Vec<Declaration<'t, 's>>,
 ) -> Result<(), OutOfMemory>
     ensures { (file line : ℕ) →
         OnOk result (plain_declarations file line found.new.items ≡ plain_declarations
@@ -162,16 +162,16 @@ fn add_chain<'t, 's>(
     put_last(found, Declaration::Link(first))?;
     let mut upper: &'s str = first;
     for name in lower {
-        add_link(found, upper, name)?;
+        add_link(upper, name, found)?;
         upper = name;
     }
     Ok(())
 }
 
 fn add_link<'t, 's>(
-    found: &mut Vec<Declaration<'t, 's>>,
     upper: &'s str,
     name: &'s str,
+    found: &mut Vec<Declaration<'t, 's>>,
 ) -> Result<(), OutOfMemory>
     ensures { (file line : ℕ) →
         OnOk result (plain_declarations file line found.new.items ≡ plain_declarations
@@ -182,24 +182,24 @@ fn add_link<'t, 's>(
 }
 
 fn add_members<'t, 's>(
-    found: &mut Vec<Declaration<'t, 's>>,
     members: &[Member<'s>],
     sort: &'s str,
+    found: &mut Vec<Declaration<'t, 's>>,
 ) -> Result<(), OutOfMemory>
     ensures { (file line : ℕ) →
         OnOk result (plain_declarations file line found.new.items ≡ plain_declarations file line
         found.old.items ++ flat_map (member_declarations sort.now) (map plain_member members.now)) }
 {
     for member in members {
-        add_member(found, member, sort)?;
+        add_member(member, sort, found)?;
     }
     Ok(())
 }
 
 fn add_member<'t, 's>(
-    found: &mut Vec<Declaration<'t, 's>>,
     member: &Member<'s>,
     sort: &'s str,
+    found: &mut Vec<Declaration<'t, 's>>,
 ) -> Result<(), OutOfMemory>
     ensures { (file line : ℕ) →
         OnOk result (plain_declarations file line found.new.items ≡ plain_declarations
@@ -212,9 +212,9 @@ fn add_member<'t, 's>(
 }
 
 fn add_variables<'t, 's>(
-    found: &mut Vec<Declaration<'t, 's>>,
     names: &[&'s str],
     sort: &'s str,
+    found: &mut Vec<Declaration<'t, 's>>,
 ) -> Result<(), OutOfMemory>
     ensures { (file line : ℕ) → OnOk result
         (plain_declarations file line found.new.items ≡ plain_declarations file line found.old.items
@@ -227,9 +227,9 @@ fn add_variables<'t, 's>(
 }
 
 fn add_constants<'t, 's>(
-    found: &mut Vec<Declaration<'t, 's>>,
     shapes: &'t [Shape<'s>],
     kind: &'t KindTree<'s>,
+    found: &mut Vec<Declaration<'t, 's>>,
 ) -> Result<(), OutOfMemory>
     ensures { (file line : ℕ) → OnOk result (plain_declarations file line found.new.items
         ≡ plain_declarations file line found.old.items ++ map (λ shape.

@@ -286,11 +286,11 @@ impl Register {
     }
 
     /// The symbol of a constant.
-    fn placed(
+    fn placed<'t, 's>(
         &self,
         alloc: Global,
-        shape: &Shape<'_>,
-        kind: &KindTree<'_>,
+        shape: &'t Shape<'s>,
+        kind: &'t KindTree<'s>,
         file: u32,
         line: u32,
     ) -> Result<Placed, OutOfMemory>
@@ -310,11 +310,11 @@ impl Register {
     }
 
     /// Adds the symbol of a constant whose name is not that of another symbol.
-    fn put_symbol(
+    fn put_symbol<'t, 's>(
         &mut self,
         alloc: Global,
-        shape: &Shape<'_>,
-        kind: &KindTree<'_>,
+        shape: &'t Shape<'s>,
+        kind: &'t KindTree<'s>,
         file: u32,
         line: u32,
     ) -> Result<(), OutOfMemory>
@@ -432,7 +432,7 @@ impl Register {
             (IsRefusedFor file left (plain_statement statement.now) self.old self.new) }
     {
         let mut new = Vec::new(alloc);
-        match add_declarations(&mut new, statement) {
+        match add_declarations(statement, &mut new) {
             Ok(()) => {
                 let declared = self.declare_all(alloc, file, statement.line, &new);
                 drop(new);

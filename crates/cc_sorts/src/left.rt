@@ -109,7 +109,7 @@ impl<'d, 't, 's> Left<'d, 't, 's> {
     }
 
     /// Whether the declaration, or one of the numbers of a range, was made before.
-    pub(crate) fn is_twice(&self, declaration: &Declaration<'_, 's>) -> bool
+    pub(crate) fn is_twice(&self, declaration: &Declaration<'t, 's>) -> bool
         ensures { result ≡ twice_by self.now declaration.now }
     {
         match declaration {
@@ -135,7 +135,7 @@ impl<'d, 't, 's> Left<'d, 't, 's> {
         true
     }
 
-    fn are_sorts(&self, names: &List<&str>) -> bool
+    fn are_sorts(&self, names: &'t List<&'s str>) -> bool
         ensures { (left : Items Declared) →
             IsLeft self.now left → result ≡ are_sorts left (map (λ name. name.now) names.now) }
     {
@@ -143,7 +143,7 @@ impl<'d, 't, 's> Left<'d, 't, 's> {
     }
 
     /// Whether the sort of an attribute, its action and the sorts of that one were declared.
-    fn knows_attribute(&self, sort: &str, action: &Shape) -> bool
+    fn knows_attribute(&self, sort: &str, action: &'t Shape<'s>) -> bool
         ensures { (left : Items Declared) →
             IsLeft self.now left → result ≡ (is_sort left sort.now && (are_sorts left
             (map (λ sort. sort.now) action.now.sorts) && is_taken left action.now.name.now)) }
@@ -151,7 +151,7 @@ impl<'d, 't, 's> Left<'d, 't, 's> {
         self.is_sort(sort) && (self.are_sorts(&action.sorts) && self.is_taken(action.name))
     }
 
-    fn has_unknown(&self, kind: &KindTree) -> bool
+    fn has_unknown(&self, kind: &'t KindTree<'s>) -> bool
         ensures { (left : Items Declared) →
             IsLeft self.now left → result ≡ has_unknown left (plain_kind kind.now) }
     {
@@ -163,7 +163,7 @@ impl<'d, 't, 's> Left<'d, 't, 's> {
     }
 
     /// Whether the declaration names a sort or an action that was not declared.
-    pub(crate) fn is_unknown(&self, declaration: &Declaration) -> bool
+    pub(crate) fn is_unknown(&self, declaration: &Declaration<'t, 's>) -> bool
         ensures { (file line : ℕ) (left : Items Declared) →
             IsLeft self.now left → result ≡ is_unknown left (plain_head file line declaration.now) }
     {
@@ -198,7 +198,7 @@ impl<'d, 't, 's> Left<'d, 't, 's> {
     }
 
     /// Whether the action was declared with as many arguments as it has here, and the attribute has as many.
-    fn has_count(&self, shapes: &List<Shape>, action: &Shape) -> bool
+    fn has_count(&self, shapes: &'t List<Shape<'s>>, action: &'t Shape<'s>) -> bool
         ensures { (left : Items Declared) → IsLeft self.now left → result ≡ ((length
             action.now.sorts == length (declared_sorts left action.now.name.now)) && list_all
             (λ shape. length shape.sorts == length action.now.sorts) (map plain_shape shapes.now)) }
@@ -207,7 +207,7 @@ impl<'d, 't, 's> Left<'d, 't, 's> {
         count == self.sort_count(action.name) && have_count(shapes, count)
     }
 
-    fn has_other_count(&self, shapes: &List<Shape>, kind: &KindTree) -> bool
+    fn has_other_count(&self, shapes: &'t List<Shape<'s>>, kind: &'t KindTree<'s>) -> bool
         ensures { (left : Items Declared) → IsLeft self.now left →
             result ≡ has_other_count left (map plain_shape shapes.now) (plain_kind kind.now) }
     {
@@ -218,7 +218,7 @@ impl<'d, 't, 's> Left<'d, 't, 's> {
     }
 
     /// Whether an action has another number of arguments than its declaration, or than its attribute.
-    pub(crate) fn has_wrong_count(&self, declaration: &Declaration) -> bool
+    pub(crate) fn has_wrong_count(&self, declaration: &Declaration<'t, 's>) -> bool
         ensures { (file line : ℕ) (left : Items Declared) → IsLeft self.now left →
             result ≡ has_wrong_count left (plain_head file line declaration.now) }
     {
@@ -300,7 +300,7 @@ impl<'d, 't, 's> Left<'d, 't, 's> {
         requires closed { closed.old.keys ≡ [] }
         ensures { OnOk result (IsClosed self.now lower.now found.new.keys) }
     {
-        put_found(found, lower)?;
+        put_found(lower, found)?;
         let mut done = 0;
         'search: while done < found.len() {
             let sort: &'a str = found[done];
@@ -361,7 +361,7 @@ impl<'d, 't, 's> Left<'d, 't, 's> {
         }
     }
 
-    fn has_other_sorts(&self, shapes: &List<Shape>, kind: &KindTree) -> bool
+    fn has_other_sorts(&self, shapes: &'t List<Shape<'s>>, kind: &'t KindTree<'s>) -> bool
         ensures { (left : Items Declared) → IsLeft self.now left →
             result ≡ has_other_sorts left (map plain_shape shapes.now) (plain_kind kind.now) }
     {
@@ -372,7 +372,7 @@ impl<'d, 't, 's> Left<'d, 't, 's> {
     }
 
     /// Whether the action was declared as a Boolean action with the sorts that it has here, and the attribute has these too.
-    fn has_sorts(&self, shapes: &List<Shape>, action: &Shape) -> bool
+    fn has_sorts(&self, shapes: &'t List<Shape<'s>>, action: &'t Shape<'s>) -> bool
         ensures { (left : Items Declared) →
             IsLeft self.now left → result ≡ action_fits (constant_named left action.now.name.now)
             (map (λ sort. sort.now) action.now.sorts) (map plain_shape shapes.now) }
@@ -383,7 +383,7 @@ impl<'d, 't, 's> Left<'d, 't, 's> {
         }
     }
 
-    fn new_fits(&self, shapes: &List<Shape>, action: &Shape) -> bool
+    fn new_fits(&self, shapes: &'t List<Shape<'s>>, action: &'t Shape<'s>) -> bool
         ensures { result ≡ shaped_fits (left_constant self.now action.now.name.now)
             (map (λ sort. sort.now) action.now.sorts) (map plain_shape shapes.now) }
     {
@@ -518,24 +518,24 @@ fn add_numbered<'a>(
         (Grows found.old.keys found.new.keys (map (name_at sorts.now) numbers.now)) }
 {
     for number in numbers {
-        put_found(found, sorts.name(*number as usize))?;
+        put_found(sorts.name(*number as usize), found)?;
     }
     Ok(())
 }
 
 /// Adds a name, unless it was found.
-fn put_found<'a>(found: &mut IndexSet<&'a str>, name: &'a str) -> Result<(), OutOfMemory>
+fn put_found<'a>(name: &'a str, found: &mut IndexSet<&'a str>) -> Result<(), OutOfMemory>
     ensures { OnOk result (found.new.keys ≡ insert_key same_key found.old.keys name.entry) }
 {
     found.insert(name)?;
     Ok(())
 }
 
-fn add_names<'a>(names: &[&'a str], found: &mut IndexSet<&'a str>) -> Result<(), OutOfMemory>
+fn add_names<'a>(names: &'a [&'a str], found: &mut IndexSet<&'a str>) -> Result<(), OutOfMemory>
     ensures { OnOk result (Grows found.old.keys found.new.keys (map (λ name. name.now) names.now)) }
 {
     for name in names {
-        put_found(found, *name)?;
+        put_found(*name, found)?;
     }
     Ok(())
 }
@@ -587,13 +587,18 @@ fn is_boolean(sort: &str) -> bool
 }
 
 /// Whether a symbol of the table is a Boolean action with these sorts.
-fn symbol_fits(table: &Register, symbol: &Symbol, shapes: &List<Shape>, action: &Shape) -> bool
+fn symbol_fits<'t, 's>(
+    table: &Register,
+    symbol: &Symbol,
+    shapes: &'t List<Shape<'s>>,
+    action: &'t Shape<'s>,
+) -> bool
     ensures { result ≡ numbers_fit table.now symbol.now
         (map (λ sort. sort.now) action.now.sorts) (map plain_shape shapes.now) }
 {
     is_boolean_action_symbol(symbol)
         && (are_numbered(table, action.sorts.items(), symbol.sorts.items())
-            && have_numbers(table, shapes, symbol.sorts.items()))
+            && have_numbers(table, symbol.sorts.items(), shapes))
 }
 
 /// Whether a symbol is an action with Boolean values, and no attribute.
@@ -628,7 +633,7 @@ fn are_numbered(table: &Register, sorts: &[&str], numbers: &[u32]) -> bool
     true
 }
 
-fn have_numbers(table: &Register, shapes: &List<Shape>, numbers: &[u32]) -> bool
+fn have_numbers(table: &Register, numbers: &[u32], shapes: &List<Shape>) -> bool
     ensures { result ≡ list_all (λ shape.
         are_numbered table.now.sorts.names shape.sorts numbers.now) (map plain_shape shapes.now) }
 {
@@ -642,7 +647,11 @@ fn have_numbers(table: &Register, shapes: &List<Shape>, numbers: &[u32]) -> bool
 }
 
 /// Whether a new constant is a Boolean action with these sorts.
-fn constant_fits(constant: &Constant, shapes: &List<Shape>, action: &Shape) -> bool
+fn constant_fits<'t, 's>(
+    constant: &Constant<'t, 's>,
+    shapes: &'t List<Shape<'s>>,
+    action: &'t Shape<'s>,
+) -> bool
     ensures { result ≡ shaped_fits (Some (plain_constant constant.now))
         (map (λ sort. sort.now) action.now.sorts) (map plain_shape shapes.now) }
 {
