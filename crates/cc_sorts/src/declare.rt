@@ -286,11 +286,11 @@ impl Register {
     }
 
     /// The symbol of a constant.
-    fn placed<'t, 's>(
+    fn placed(
         &self,
         alloc: Global,
-        shape: &'t Shape<'s>,
-        kind: &'t KindTree<'s>,
+        shape: &Shape<'_>,
+        kind: &KindTree<'_>,
         file: u32,
         line: u32,
     ) -> Result<Placed, OutOfMemory>
@@ -310,11 +310,11 @@ impl Register {
     }
 
     /// Adds the symbol of a constant whose name is not that of another symbol.
-    fn put_symbol<'t, 's>(
+    fn put_symbol(
         &mut self,
         alloc: Global,
-        shape: &'t Shape<'s>,
-        kind: &'t KindTree<'s>,
+        shape: &Shape<'_>,
+        kind: &KindTree<'_>,
         file: u32,
         line: u32,
     ) -> Result<(), OutOfMemory>
