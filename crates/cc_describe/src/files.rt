@@ -8,7 +8,7 @@ ghost use Rattle.cc_describe.specs.Places.{Place, ArePlaces, AreThere, content, 
 ghost use Rattle.cc_describe.specs.declared.heads.Heads.{Heads as Which};
 ghost use Rattle.cc_describe.specs.ProgressViews.{FindsFiles, GoesSomewhere, GoesThrough, IsOpened, IsProgress, IsRefusedOpening, OpensAsKept};
 
-use crate::progress::Progress;
+use crate::progress::{Progress, take_up};
 use cc_defs::{Bytes, Fault, LimitAt, OutOfMemory, Refusal};
 use cc_ports::{Desk, ReadStop, read_all};
 use cc_syntax::laws::tree_or_refusal;
@@ -149,7 +149,7 @@ pub(crate) fn read_file<D: Desk>(
         Err(fault) => return Err(Halt::from(fault)),
     };
     for i in 0..tokens.count() {
-        match progress.take(alloc, file, tokens.statement(i))? {
+        match take_up(alloc, tokens.statement(i), file, progress)? {
             // A deeper include was refused.
             Some(included) => {
                 if deep > 0 {

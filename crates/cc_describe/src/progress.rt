@@ -60,7 +60,7 @@ fn has_name(names: &[Name], name: &str) -> bool
 }
 
 /// Whether the part of a query gives a label that is there.
-fn has_taken_label(labels: &Labels, item: &QueryItem<'_>) -> bool
+fn has_taken_label(item: &QueryItem<'_>, labels: &Labels) -> bool
     ensures { result ≡ list_any (is_among labels.now) (labels_in (plain_query_item item.now)) }
 {
     match item {
@@ -70,11 +70,11 @@ fn has_taken_label(labels: &Labels, item: &QueryItem<'_>) -> bool
 }
 
 /// Whether a query gives a label that is there.
-fn gives_taken_label(labels: &Labels, items: &[QueryItem<'_>]) -> bool
+fn gives_taken_label(items: &[QueryItem<'_>], labels: &Labels) -> bool
     ensures { result
         ≡ list_any (is_among labels.now) (flat_map labels_in (map plain_query_item items.now)) }
 {
-    items.iter().any(|item| has_taken_label(labels, item))
+    items.iter().any(|item| has_taken_label(item, labels))
 }
 
 /// Puts an item behind the others of a list. It is of any type, so that its drop is one call.
@@ -102,72 +102,6 @@ impl Progress {
             bytes: 0,
             around: Vec::new(alloc),
         })
-    }
-
-    /// Adds the base laws of a statement whose declarations are in the table.
-    fn add_laws(&mut self, alloc: Global, file: u32, statement: &Statement<'_>) -> Result<(), Fault>
-        ensures expanded { (left : Items Declaration) → IsTable self.old.table left →
-            OnOk result ((law_refusal file (vocabulary left) (plain_statement statement.now) ≡ None)
-            × (map plain_base_law self.new.laws.items
-            ≡ map plain_base_law self.old.laws.items ++ base_laws file (vocabulary left)
-            (plain_statement statement.now).line (plain_statement statement.now).part)) }
-        ensures refused { (left : Items Declaration) → IsTable self.old.table left → IfErr result
-            (IsRefusedBy (law_refusal file (vocabulary left) (plain_statement statement.now))) }
-        ensures rest { self.new ≡ record self.old { laws = self.new.laws } }
-    {
-        let laws = expand(alloc, file, &self.table, statement)?;
-        self.laws.append(&mut laws.into_items())?;
-        Ok(())
-    }
-
-    /// Adds the laws of such a statement, with heads of any form.
-    fn add_wide(&mut self, alloc: Global, file: u32, statement: &Statement<'_>) -> Result<(), Fault>
-        ensures expanded { (left : Items Declaration) → IsTable self.old.table left → OnOk result
-            ((wide_refusal file (vocabulary left) (plain_statement statement.now) ≡ None)
-            × (map plain_wide_base self.new.wide.items
-            ≡ map plain_wide_base self.old.wide.items ++ wide_laws file (vocabulary left)
-            (plain_statement statement.now).line (plain_statement statement.now).part)) }
-        ensures refused { (left : Items Declaration) → IsTable self.old.table left → IfErr result
-            (IsRefusedBy (wide_refusal file (vocabulary left) (plain_statement statement.now))) }
-        ensures rest { self.new ≡ record self.old { wide = self.new.wide } }
-    {
-        let laws = expand_wide(alloc, file, &self.table, statement)?;
-        self.wide.append(&mut laws.into_items())?;
-        Ok(())
-    }
-
-    /// Adds the laws of a statement whose declarations are in the table, in the form that they are to have.
-    fn expand(&mut self, alloc: Global, file: u32, statement: &Statement<'_>) -> Result<(), Fault>
-        ensures expanded { (left : Items Declaration) → IsTable self.old.table left → OnOk result
-            ((law_refusal_of self.old.heads file (vocabulary left) (plain_statement statement.now)
-            ≡ None) × Adds self.old.heads file left (plain_statement statement.now)
-            self.old self.new) }
-        ensures refused { (left : Items Declaration) → IsTable self.old.table left → IfErr result
-            (IsRefusedBy (law_refusal_of self.old.heads file (vocabulary left)
-            (plain_statement statement.now))) }
-        ensures rest { self.new
-            ≡ record self.old { laws = self.new.laws; wide = self.new.wide } }
-    {
-        match self.heads {
-            Heads::Definite => self.add_laws(alloc, file, statement),
-            Heads::Any => self.add_wide(alloc, file, statement),
-        }
-    }
-
-    /// Takes up a statement of declarations.
-    fn declare(&mut self, alloc: Global, file: u32, statement: &Statement<'_>) -> Result<(), Fault>
-        requires { IsTrue (declares (plain_statement statement.now).part) }
-        ensures said { (which : Which) (before : Items Place) →
-            IsProgress which self.old before → OnOk result (Says which before file
-            self.old.around.items (plain_statement statement.now) self.new) }
-        ensures refused { (which : Which) (before : Items Place) →
-            IsProgress which self.old before → IfErr result (IsRefusedBy
-            (declaration_refusal file (declared_in before) (plain_statement statement.now))) }
-        ensures around { self.new.around ≡ self.old.around }
-        ensures names { self.new.names ≡ self.old.names }
-    {
-        self.table.declare(file, statement)?;
-        self.expand(alloc, file, statement)
     }
 
     /// Keeps a label, if there is one and it is not kept.
@@ -200,32 +134,6 @@ impl Progress {
         }
     }
 
-    /// Takes up a query.
-    fn ask(
-        &mut self,
-        alloc: Global,
-        file: u32,
-        statement: &Statement<'_>,
-        items: &[QueryItem<'_>],
-    ) -> Result<(), Fault>
-        requires { (plain_statement statement.now).part ≡ asks (map plain_query_item items.now) }
-        ensures said { (which : Which) (before : Items Place) →
-            IsProgress which self.old before → OnOk result (Says which before file
-            self.old.around.items (plain_statement statement.now) self.new) }
-        ensures refused { (which : Which) (before : Items Place) →
-            IsProgress which self.old before → IfErr result
-            (IsRefusedBy (asking_refusal before file (plain_statement statement.now))) }
-        ensures around { self.new.around ≡ self.old.around }
-        ensures names { self.new.names ≡ self.old.names }
-    {
-        if gives_taken_label(&self.labels, items) {
-            return Err(Fault::Refused(Refusal::at(4, file, statement.line)));
-        }
-        let query = question(alloc, file, &self.table, statement)?;
-        self.keep(alloc, query)?;
-        Ok(())
-    }
-
     /// Whether a file may be included where it is named.
     fn include(&self, file: u32, line: u32, name: &str) -> Result<(), Fault>
         ensures included { OnOk result
@@ -241,79 +149,6 @@ impl Progress {
             return Err(Fault::Refused(Refusal::past_at(LimitAt::IncludeDepth, file, line)));
         }
         Ok(())
-    }
-
-    /// Takes up a statement, whose tree this is.
-    fn say(&mut self, alloc: Global, file: u32, statement: &Statement<'_>) -> Result<(), Fault>
-        ensures said { (which : Which) (before : Items Place) →
-            IsProgress which self.old before → OnOk result (Says which before file
-            self.old.around.items (plain_statement statement.now) self.new) }
-        ensures refused { (which : Which) (before : Items Place) →
-            IsProgress which self.old before → IfErr result
-            (IsRefusedBy (statement_refusal which before file self.old.around.items
-            (plain_statement statement.now) (plain_statement statement.now).part)) }
-        ensures around { self.new.around ≡ self.old.around }
-        ensures names { self.new.names ≡ self.old.names }
-    {
-        match &*statement.part {
-            Part::Sorts(_) | Part::Objects(_) | Part::Variables(_) | Part::Constants(_) => {
-                self.declare(alloc, file, statement)
-            }
-            Part::Law(..) => self.expand(alloc, file, statement),
-            Part::Query(items) => self.ask(alloc, file, statement, items.items()),
-            Part::Include(name) => self.include(file, statement.line, name),
-        }
-    }
-
-    /// Takes up a statement, whose tree this is, and answers the name of the file that it includes, if it does.
-    fn take_tree<'s>(
-        &mut self,
-        alloc: Global,
-        file: u32,
-        statement: &Statement<'s>,
-    ) -> Result<Option<&'s str>, Fault>
-        ensures said { (which : Which) (before : Items Place) →
-            IsProgress which self.old before → OnOk result (Says which before file
-            self.old.around.items (plain_statement statement.now) self.new) }
-        ensures name { IfOk result (λ name.
-            option_copied name ≡ included (plain_statement statement.now).part) }
-        ensures refused { (which : Which) (before : Items Place) →
-            IsProgress which self.old before → IfErr result
-            (IsRefusedBy (statement_refusal which before file self.old.around.items
-            (plain_statement statement.now) (plain_statement statement.now).part)) }
-        ensures around { self.new.around ≡ self.old.around }
-        ensures names { self.new.names ≡ self.old.names }
-    {
-        self.say(alloc, file, statement)?;
-        Ok(included_by(&statement.part))
-    }
-
-    /// Takes up a statement, and answers the name of the file that it includes, if it does. Refuses it at its place.
-    pub(crate) fn take<'s>(
-        &mut self,
-        alloc: Global,
-        file: u32,
-        tokens: &[Token<'s>],
-    ) -> Result<Option<&'s str>, Fault>
-        requires some { 0 < length tokens.now }
-        requires are { AreTokens (token_views tokens.now) }
-        ensures taken { (which : Which) (before : Items Place) → IsProgress which self.old before →
-            IfOk result (λ name. IsTaken which before file self.old.around.items
-            (token_views tokens.now) (option_copied name) self.new) }
-        ensures refused { (which : Which) (before : Items Place) →
-            IsProgress which self.old before → IfErr result
-            (IsRefusedStatement which before file self.old.around.items (token_views tokens.now)) }
-        ensures around { self.new.around ≡ self.old.around }
-        ensures names { self.new.names ≡ self.old.names }
-    {
-        match parse(alloc, file, tokens) {
-            Ok(statement) => {
-                let taken = self.take_tree(alloc, file, &statement);
-                discard(statement);
-                taken
-            }
-            Err(fault) => Err(fault),
-        }
     }
 
     /// Notes the name of a file that is opened, and answers its number.
@@ -361,6 +196,196 @@ impl Progress {
         }
         self.bytes = all;
         Ok(())
+    }
+}
+
+/// Adds the base laws of a statement whose declarations are in the table.
+fn add_definite(
+    alloc: Global,
+    statement: &Statement<'_>,
+    file: u32,
+    progress: &mut Progress,
+) -> Result<(), Fault>
+    ensures expanded { (left : Items Declaration) → IsTable progress.old.table left →
+        OnOk result ((law_refusal file (vocabulary left) (plain_statement statement.now) ≡ None)
+        × (map plain_base_law progress.new.laws.items
+        ≡ map plain_base_law progress.old.laws.items ++ base_laws file (vocabulary left)
+        (plain_statement statement.now).line (plain_statement statement.now).part)) }
+    ensures refused { (left : Items Declaration) → IsTable progress.old.table left → IfErr result
+        (IsRefusedBy (law_refusal file (vocabulary left) (plain_statement statement.now))) }
+    ensures rest { progress.new ≡ record progress.old { laws = progress.new.laws } }
+{
+    let laws = expand(alloc, statement, file, &progress.table)?;
+    progress.laws.append(&mut laws.into_items())?;
+    Ok(())
+}
+
+/// Adds the laws of such a statement, with heads of any form.
+fn add_wide(
+    alloc: Global,
+    statement: &Statement<'_>,
+    file: u32,
+    progress: &mut Progress,
+) -> Result<(), Fault>
+    ensures expanded { (left : Items Declaration) → IsTable progress.old.table left → OnOk result
+        ((wide_refusal file (vocabulary left) (plain_statement statement.now) ≡ None)
+        × (map plain_wide_base progress.new.wide.items
+        ≡ map plain_wide_base progress.old.wide.items ++ wide_laws file (vocabulary left)
+        (plain_statement statement.now).line (plain_statement statement.now).part)) }
+    ensures refused { (left : Items Declaration) → IsTable progress.old.table left → IfErr result
+        (IsRefusedBy (wide_refusal file (vocabulary left) (plain_statement statement.now))) }
+    ensures rest { progress.new ≡ record progress.old { wide = progress.new.wide } }
+{
+    let laws = expand_wide(alloc, statement, file, &progress.table)?;
+    progress.wide.append(&mut laws.into_items())?;
+    Ok(())
+}
+
+/// Adds the laws of a statement whose declarations are in the table, in the form that they are to have.
+fn add_laws(
+    alloc: Global,
+    statement: &Statement<'_>,
+    file: u32,
+    progress: &mut Progress,
+) -> Result<(), Fault>
+    ensures expanded { (left : Items Declaration) → IsTable progress.old.table left → OnOk result
+        ((law_refusal_of progress.old.heads file (vocabulary left) (plain_statement statement.now)
+        ≡ None) × Adds progress.old.heads file left (plain_statement statement.now)
+        progress.old progress.new) }
+    ensures refused { (left : Items Declaration) → IsTable progress.old.table left → IfErr result
+        (IsRefusedBy (law_refusal_of progress.old.heads file (vocabulary left)
+        (plain_statement statement.now))) }
+    ensures rest { progress.new
+        ≡ record progress.old { laws = progress.new.laws; wide = progress.new.wide } }
+{
+    match progress.heads {
+        Heads::Definite => add_definite(alloc, statement, file, progress),
+        Heads::Any => add_wide(alloc, statement, file, progress),
+    }
+}
+
+/// Takes up a statement of declarations.
+fn declare(
+    alloc: Global,
+    statement: &Statement<'_>,
+    file: u32,
+    progress: &mut Progress,
+) -> Result<(), Fault>
+    requires { IsTrue (declares (plain_statement statement.now).part) }
+    ensures said { (which : Which) (before : Items Place) →
+        IsProgress which progress.old before → OnOk result (Says which before file
+        progress.old.around.items (plain_statement statement.now) progress.new) }
+    ensures refused { (which : Which) (before : Items Place) →
+        IsProgress which progress.old before → IfErr result (IsRefusedBy
+        (declaration_refusal file (declared_in before) (plain_statement statement.now))) }
+    ensures around { progress.new.around ≡ progress.old.around }
+    ensures names { progress.new.names ≡ progress.old.names }
+{
+    progress.table.declare(file, statement)?;
+    add_laws(alloc, statement, file, progress)
+}
+
+/// Takes up a query.
+fn ask<'t, 's>(
+    alloc: Global,
+    statement: &'t Statement<'s>,
+    items: &'t [QueryItem<'s>],
+    file: u32,
+    progress: &mut Progress,
+) -> Result<(), Fault>
+    requires { (plain_statement statement.now).part ≡ asks (map plain_query_item items.now) }
+    ensures said { (which : Which) (before : Items Place) →
+        IsProgress which progress.old before → OnOk result (Says which before file
+        progress.old.around.items (plain_statement statement.now) progress.new) }
+    ensures refused { (which : Which) (before : Items Place) →
+        IsProgress which progress.old before → IfErr result
+        (IsRefusedBy (asking_refusal before file (plain_statement statement.now))) }
+    ensures around { progress.new.around ≡ progress.old.around }
+    ensures names { progress.new.names ≡ progress.old.names }
+{
+    if gives_taken_label(items, &progress.labels) {
+        return Err(Fault::Refused(Refusal::at(4, file, statement.line)));
+    }
+    let query = question(alloc, statement, file, &progress.table)?;
+    progress.keep(alloc, query)?;
+    Ok(())
+}
+
+/// Takes up a statement, whose tree this is.
+fn say(
+    alloc: Global,
+    statement: &Statement<'_>,
+    file: u32,
+    progress: &mut Progress,
+) -> Result<(), Fault>
+    ensures said { (which : Which) (before : Items Place) →
+        IsProgress which progress.old before → OnOk result (Says which before file
+        progress.old.around.items (plain_statement statement.now) progress.new) }
+    ensures refused { (which : Which) (before : Items Place) →
+        IsProgress which progress.old before → IfErr result
+        (IsRefusedBy (statement_refusal which before file progress.old.around.items
+        (plain_statement statement.now) (plain_statement statement.now).part)) }
+    ensures around { progress.new.around ≡ progress.old.around }
+    ensures names { progress.new.names ≡ progress.old.names }
+{
+    match &*statement.part {
+        Part::Sorts(_) | Part::Objects(_) | Part::Variables(_) | Part::Constants(_) => {
+            declare(alloc, statement, file, progress)
+        }
+        Part::Law(..) => add_laws(alloc, statement, file, progress),
+        Part::Query(items) => ask(alloc, statement, items.items(), file, progress),
+        Part::Include(name) => progress.include(file, statement.line, name),
+    }
+}
+
+/// Takes up a statement, whose tree this is, and answers the name of the file that it includes, if it does.
+fn take_tree<'s>(
+    alloc: Global,
+    statement: &Statement<'s>,
+    file: u32,
+    progress: &mut Progress,
+) -> Result<Option<&'s str>, Fault>
+    ensures said { (which : Which) (before : Items Place) →
+        IsProgress which progress.old before → OnOk result (Says which before file
+        progress.old.around.items (plain_statement statement.now) progress.new) }
+    ensures name { IfOk result (λ name.
+        option_copied name ≡ included (plain_statement statement.now).part) }
+    ensures refused { (which : Which) (before : Items Place) →
+        IsProgress which progress.old before → IfErr result
+        (IsRefusedBy (statement_refusal which before file progress.old.around.items
+        (plain_statement statement.now) (plain_statement statement.now).part)) }
+    ensures around { progress.new.around ≡ progress.old.around }
+    ensures names { progress.new.names ≡ progress.old.names }
+{
+    say(alloc, statement, file, progress)?;
+    Ok(included_by(&statement.part))
+}
+
+/// Takes up a statement, and answers the name of the file that it includes, if it does. Refuses it at its place.
+pub(crate) fn take_up<'s>(
+    alloc: Global,
+    tokens: &[Token<'s>],
+    file: u32,
+    progress: &mut Progress,
+) -> Result<Option<&'s str>, Fault>
+    requires some { 0 < length tokens.now }
+    requires are { AreTokens (token_views tokens.now) }
+    ensures taken { (which : Which) (before : Items Place) → IsProgress which progress.old before →
+        IfOk result (λ name. IsTaken which before file progress.old.around.items
+        (token_views tokens.now) (option_copied name) progress.new) }
+    ensures refused { (which : Which) (before : Items Place) →
+        IsProgress which progress.old before → IfErr result
+        (IsRefusedStatement which before file progress.old.around.items (token_views tokens.now)) }
+    ensures around { progress.new.around ≡ progress.old.around }
+    ensures names { progress.new.names ≡ progress.old.names }
+{
+    match parse(alloc, file, tokens) {
+        Ok(statement) => {
+            let taken = take_tree(alloc, &statement, file, progress);
+            discard(statement);
+            taken
+        }
+        Err(fault) => Err(fault),
     }
 }
 

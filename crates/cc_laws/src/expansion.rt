@@ -640,8 +640,13 @@ fn expand_part(
     }
 }
 
-/// The base laws of a statement, as `expand` says.
-fn expand_statement(
+/// The base laws that a law, or a statement of constants that was declared, stands for, in order, at the table as it
+/// stands. Another statement stands for none. Refuses, at the statement's line, the least number of a fault of the
+/// law: an unknown name (5), another number of arguments (6), a term where its sort or kind does not fit (7), a `where` test
+/// with a variable that is not free in the law before it (8), a law of none of the three forms or a part of the wrong kind
+/// (9), a statically determined fluent in the head of a fluent dynamic law (10), a head that is not definite (11). A
+/// statement that is no law has no such fault. `file` is the number of the file in refusals.
+pub fn expand(
     alloc: Global,
     statement: &Statement<'_>,
     file: u32,
@@ -653,24 +658,4 @@ fn expand_statement(
         (IsRefusedBy (law_refusal file (vocabulary left) (plain_statement statement.now))) }
 {
     listed(expand_part(alloc, &statement.part, file, table, statement.line))
-}
-
-/// The base laws that a law, or a statement of constants that was declared, stands for, in order, at the table as it
-/// stands. Another statement stands for none. Refuses, at the statement's line, the least number of a fault of the
-/// law: an unknown name (5), another number of arguments (6), a term where its sort or kind does not fit (7), a `where` test
-/// with a variable that is not free in the law before it (8), a law of none of the three forms or a part of the wrong kind
-/// (9), a statically determined fluent in the head of a fluent dynamic law (10), a head that is not definite (11). A
-/// statement that is no law has no such fault. `file` is the number of the file in refusals.
-pub fn expand(
-    alloc: Global,
-    file: u32,
-    table: &Table,
-    statement: &Statement<'_>,
-) -> Result<BaseLaws, Fault>
-    ensures expanded { (left : Items Declared) → IsTable table.now left → IfOk result (λ laws.
-        Expands file left (plain_statement statement.now) (map plain_base_law laws)) }
-    ensures refused { (left : Items Declared) → IsTable table.now left → IfErr result
-        (IsRefusedBy (law_refusal file (vocabulary left) (plain_statement statement.now))) }
-{
-    expand_statement(alloc, statement, file, table)
 }

@@ -386,8 +386,11 @@ fn ask(
     }
 }
 
-/// What a statement asks, as `question` says.
-fn ask_statement(
+/// What a query asks, at the table as it stands. Refuses, at the statement's line, the least number of a fault: a label, a
+/// range of horizons or a claim given twice (4), an unknown name (5), another number of arguments (6), a term where its sort
+/// or kind does not fit (7), a free variable (8). A statement that is no query asks nothing. `file` is the number of the
+/// file in refusals.
+pub fn question(
     alloc: Global,
     statement: &Statement<'_>,
     file: u32,
@@ -400,22 +403,4 @@ fn ask_statement(
 {
     let items = items_of(&statement.part);
     ask(alloc, items, file, table, statement.line)
-}
-
-/// What a query asks, at the table as it stands. Refuses, at the statement's line, the least number of a fault: a label, a
-/// range of horizons or a claim given twice (4), an unknown name (5), another number of arguments (6), a term where its sort
-/// or kind does not fit (7), a free variable (8). A statement that is no query asks nothing. `file` is the number of the
-/// file in refusals.
-pub fn question(
-    alloc: Global,
-    file: u32,
-    table: &Table,
-    statement: &Statement<'_>,
-) -> Result<Query, Fault>
-    ensures asked { (left : Items Declared) → IsTable table.now left →
-        IfOk result (λ query. Asks file left (plain_statement statement.now) (plain_query query)) }
-    ensures refused { (left : Items Declared) → IsTable table.now left → IfErr result
-        (IsRefusedBy (query_refusal file (vocabulary left) (plain_statement statement.now))) }
-{
-    ask_statement(alloc, statement, file, table)
 }

@@ -290,8 +290,11 @@ fn expand_wide_part(
     }
 }
 
-/// The laws of a statement, as `expand_wide` says.
-fn expand_wide_statement(
+/// The laws that a law, or a statement of constants that was declared, stands for, in order, where heads may be formulas of
+/// any form: of a law with a definite head its base laws, with their atoms as equations; of another law one, whose head is
+/// kept whole. Refuses, at the statement's line, the least number from 5 to 10 of a fault of the law, as `expand` does; a head
+/// that is not definite is none. `file` is the number of the file in refusals.
+pub fn expand_wide(
     alloc: Global,
     statement: &Statement<'_>,
     file: u32,
@@ -303,22 +306,4 @@ fn expand_wide_statement(
         (IsRefusedBy (wide_refusal file (vocabulary left) (plain_statement statement.now))) }
 {
     listed(expand_wide_part(alloc, &statement.part, file, table, statement.line))
-}
-
-/// The laws that a law, or a statement of constants that was declared, stands for, in order, where heads may be formulas of
-/// any form: of a law with a definite head its base laws, with their atoms as equations; of another law one, whose head is
-/// kept whole. Refuses, at the statement's line, the least number from 5 to 10 of a fault of the law, as `expand` does; a head
-/// that is not definite is none. `file` is the number of the file in refusals.
-pub fn expand_wide(
-    alloc: Global,
-    file: u32,
-    table: &Table,
-    statement: &Statement<'_>,
-) -> Result<WideLaws, Fault>
-    ensures expanded { (left : Items Declared) → IsTable table.now left → IfOk result (λ laws.
-        ExpandsWide file left (plain_statement statement.now) (map plain_wide_base laws)) }
-    ensures refused { (left : Items Declared) → IsTable table.now left → IfErr result
-        (IsRefusedBy (wide_refusal file (vocabulary left) (plain_statement statement.now))) }
-{
-    expand_wide_statement(alloc, statement, file, table)
 }

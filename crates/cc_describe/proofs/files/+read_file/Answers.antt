@@ -37,11 +37,11 @@ loop-i-preserved g t c =
     let within : c.loop-i.i < length statements = subst (λ n. c.loop-i.i < n) (c.count-i-end.ensures ∙ ap length (sym c.tokens.view_is)) c.loop-i-test.true in
     let tokens_are : token_views c.statement.result.now ≡ tokens = c.statement.ensures.tokens ∙ ap (λ s. slice_index_or s c.loop-i.i []) (sym c.tokens.view_is) in
     let after = c.loop-i.invariant.told in
-    let taken_around : c.take.new.self.around.items ≡ around = ap (λ a. a.items) c.in_ok-included.ensures.around ∙ c.loop-i.invariant.around in
+    let taken_around : c.take_up.new.progress.around.items ≡ around = ap (λ a. a.items) c.in_ok-included.ensures.around ∙ c.loop-i.invariant.around in
     let taken_calls = keeps_as c.loop-i.invariant.calls (ap (λ l. l.items) c.in_ok-included.ensures.names) in
-    let went : (which : Heads) (before : List Place) → IsProgress which c.args.progress.now before → Gone which before c.take.new.self =
-    λ which before was. then_goes before c.loop-i.progress c.take.new.self (Ok (tt {0})) (c.loop-i.invariant.kept which before was)
-    (λ more kept. let taken = c.in_ok-included.ensures.taken which more kept in said_goes more file c.loop-i.progress.around.items taken.0 c.take.new.self taken.3) in
+    let went : (which : Heads) (before : List Place) → IsProgress which c.args.progress.now before → Gone which before c.take_up.new.progress =
+    λ which before was. then_goes before c.loop-i.progress c.take_up.new.progress (Ok (tt {0})) (c.loop-i.invariant.kept which before was)
+    (λ more kept. let taken = c.in_ok-included.ensures.taken which more kept in said_goes more file c.loop-i.progress.around.items taken.0 c.take_up.new.progress taken.3) in
     elim c.match-branch-3.branch [
       | in-Some+then-deep-gt0+in_ok-read_file-in-Some w ↦
           let read = w.in_ok-read_file-in-Some.ensures in
@@ -52,13 +52,13 @@ loop-i-preserved g t c =
                 let mid = (before ++ Opened name (content contents.files name) ∷ []) ++ m.done in
                 subst (Midway which c.args.deep contents.files before name file around statements (c.loop-i.i + 1)) (sym w.progress-is)
                 (midway_goes w.read_file.new.progress tt within m
-                (statement_reads c.args.deep contents.files around _ file mid tokens w.in-Some.included.now (Ok tt) c.take.new.self w.read_file.new.progress
+                (statement_reads c.args.deep contents.files around _ file mid tokens w.in-Some.included.now (Ok tt) c.take_up.new.progress w.read_file.new.progress
                 w.if-deep-gt0.true taken_around
-                (taken_as mid file _ around _ tokens _ (Some w.in-Some.included.now) c.take.new.self c.loop-i.invariant.around
+                (taken_as mid file _ around _ tokens _ (Some w.in-Some.included.now) c.take_up.new.progress c.loop-i.invariant.around
                 tokens_are (ap option_copied w.in-Some.is) (c.in_ok-included.ensures.taken which mid m.kept))
                 (λ more kept. read.gone (with_rest after.0 contents) which more (tells_still after.0 _ _ contents after.1 told) kept)));
             kept = λ which before was.
-                subst (Gone which before) (sym w.progress-is) (then_goes before c.take.new.self w.read_file.new.progress (Ok (tt {0})) (went which before was) (read.kept which));
+                subst (Gone which before) (sym w.progress-is) (then_goes before c.take_up.new.progress w.read_file.new.progress (Ok (tt {0})) (went which before was) (read.kept which));
             there = λ contents told are.
                 subst (λ p. AreThere contents.files p.names.items) (sym w.progress-is)
                 (read.there (with_rest after.0 contents) (tells_still after.0 _ _ contents after.1 told)
@@ -79,9 +79,9 @@ loop-i-preserved g t c =
                 let m = c.loop-i.invariant.gone contents which before told was in
                 let mid = (before ++ Opened name (content contents.files name) ∷ []) ++ m.done in
                 subst (Midway which c.args.deep contents.files before name file around statements (c.loop-i.i + 1)) (sym w.progress-is)
-                (midway_goes c.take.new.self tt within m
-                (statement_ends c.args.deep contents.files around file mid tokens w.in-Some.included.now tt c.take.new.self (none_below w.if-deep-gt0.false)
-                (taken_as mid file _ around _ tokens _ (Some w.in-Some.included.now) c.take.new.self c.loop-i.invariant.around
+                (midway_goes c.take_up.new.progress tt within m
+                (statement_ends c.args.deep contents.files around file mid tokens w.in-Some.included.now tt c.take_up.new.progress (none_below w.if-deep-gt0.false)
+                (taken_as mid file _ around _ tokens _ (Some w.in-Some.included.now) c.take_up.new.progress c.loop-i.invariant.around
                 tokens_are (ap option_copied w.in-Some.is) (c.in_ok-included.ensures.taken which mid m.kept))));
             kept = λ which before was.
                 subst (Gone which before) (sym w.progress-is) (went which before was);
@@ -89,7 +89,7 @@ loop-i-preserved g t c =
                 subst (λ p. AreThere contents.files p.names.items) (sym w.progress-is)
                 (subst (λ l. AreThere contents.files l.items) (sym c.in_ok-included.ensures.names) (c.loop-i.invariant.there contents told are));
             told = (after.0, ap (λ desk. (g.D.Desk.seen desk).told) w.desk-is ∙ after.1);
-            calls = keeps_as (subst (λ desk. OpensAsKept c.args.progress.now.names.items c.take.new.self.names.items (g.D.Desk.seen c.args.desk.now).calls (g.D.Desk.seen desk).calls) (sym w.desk-is) taken_calls) (ap (λ p. p.names.items) w.progress-is);
+            calls = keeps_as (subst (λ desk. OpensAsKept c.args.progress.now.names.items c.take_up.new.progress.names.items (g.D.Desk.seen c.args.desk.now).calls (g.D.Desk.seen desk).calls) (sym w.desk-is) taken_calls) (ap (λ p. p.names.items) w.progress-is);
             calm = (ap (λ desk. (g.D.Desk.seen desk).reads) w.desk-is ∙ c.loop-i.invariant.calm.0, ap (λ desk. (g.D.Desk.seen desk).writes) w.desk-is ∙ c.loop-i.invariant.calm.1);
             begun = ap (λ desk. (g.D.Desk.seen desk).begun) w.desk-is ∙ c.loop-i.invariant.begun;
             reads_count = subst (λ desk. (g.D.Desk.seen c.args.desk.now).reads ≤ (g.D.Desk.seen desk).reads) (sym w.desk-is) c.loop-i.invariant.reads_count;
@@ -102,9 +102,9 @@ loop-i-preserved g t c =
                 let m = c.loop-i.invariant.gone contents which before told was in
                 let mid = (before ++ Opened name (content contents.files name) ∷ []) ++ m.done in
                 subst (Midway which c.args.deep contents.files before name file around statements (c.loop-i.i + 1)) (sym w.progress-is)
-                (midway_goes c.take.new.self tt within m
-                (statement_alone (AreInside c.args.deep contents.files around) around file mid tokens tt c.take.new.self
-                (taken_as mid file _ around _ tokens _ None c.take.new.self c.loop-i.invariant.around
+                (midway_goes c.take_up.new.progress tt within m
+                (statement_alone (AreInside c.args.deep contents.files around) around file mid tokens tt c.take_up.new.progress
+                (taken_as mid file _ around _ tokens _ None c.take_up.new.progress c.loop-i.invariant.around
                 tokens_are (ap option_copied w.in-None.is) (c.in_ok-included.ensures.taken which mid m.kept))));
             kept = λ which before was.
                 subst (Gone which before) (sym w.progress-is) (went which before was);
@@ -112,7 +112,7 @@ loop-i-preserved g t c =
                 subst (λ p. AreThere contents.files p.names.items) (sym w.progress-is)
                 (subst (λ l. AreThere contents.files l.items) (sym c.in_ok-included.ensures.names) (c.loop-i.invariant.there contents told are));
             told = (after.0, ap (λ desk. (g.D.Desk.seen desk).told) w.desk-is ∙ after.1);
-            calls = keeps_as (subst (λ desk. OpensAsKept c.args.progress.now.names.items c.take.new.self.names.items (g.D.Desk.seen c.args.desk.now).calls (g.D.Desk.seen desk).calls) (sym w.desk-is) taken_calls) (ap (λ p. p.names.items) w.progress-is);
+            calls = keeps_as (subst (λ desk. OpensAsKept c.args.progress.now.names.items c.take_up.new.progress.names.items (g.D.Desk.seen c.args.desk.now).calls (g.D.Desk.seen desk).calls) (sym w.desk-is) taken_calls) (ap (λ p. p.names.items) w.progress-is);
             calm = (ap (λ desk. (g.D.Desk.seen desk).reads) w.desk-is ∙ c.loop-i.invariant.calm.0, ap (λ desk. (g.D.Desk.seen desk).writes) w.desk-is ∙ c.loop-i.invariant.calm.1);
             begun = ap (λ desk. (g.D.Desk.seen desk).begun) w.desk-is ∙ c.loop-i.invariant.begun;
             reads_count = subst (λ desk. (g.D.Desk.seen c.args.desk.now).reads ≤ (g.D.Desk.seen desk).reads) (sym w.desk-is) c.loop-i.invariant.reads_count;
@@ -120,8 +120,8 @@ loop-i-preserved g t c =
           }
     ]
 
-pub take-requires-clause-are : goal.take-requires-clause-are
-take-requires-clause-are g t c = c.statement.ensures.are _ c.in-Ok.ensures.read
+pub take_up-requires-clause-are : goal.take_up-requires-clause-are
+take_up-requires-clause-are g t c = c.statement.ensures.are _ c.in-Ok.ensures.read
 
 pub overflow_sub-deep : goal.overflow_sub-deep
 overflow_sub-deep g t c = c.if-deep-gt0.true
@@ -182,17 +182,17 @@ returns-in_err-included g t c = record {
       let mid = (before ++ Opened name (content contents.files name) ∷ []) ++ m.done in
       let within : c.loop-i.i < length statements = subst (λ n. c.loop-i.i < n) (c.count-i-end.ensures ∙ ap length (sym c.tokens.view_is)) c.loop-i-test.true in
       told_as which _ before c.from_residual-in_err-included.result _ _ c.from_residual-in_err-included.ensures.1
-      (midway_stops c.cut_or_stop.ensures c.statements_are_tokens.ensures c.tree_or_refusal.ensures c.args.progress.now.around.items c.take.new.self _ within (has_read _ _ _ _ _ c.items.ensures opened.0 c.tokens.view_is c.in-Ok.ensures.read) m
+      (midway_stops c.cut_or_stop.ensures c.statements_are_tokens.ensures c.tree_or_refusal.ensures c.args.progress.now.around.items c.take_up.new.progress _ within (has_read _ _ _ _ _ c.items.ensures opened.0 c.tokens.view_is c.in-Ok.ensures.read) m
       (statement_refused c.cut_or_stop.ensures c.statements_are_tokens.ensures c.tree_or_refusal.ensures c.args.deep contents.files around c.in_ok-bytes.file mid tokens _
-      c.loop-i.progress c.take.new.self
+      c.loop-i.progress c.take_up.new.progress
       (later_are_tokens c.statements_are_tokens.ensures _ statements c.loop-i.i within (has_read _ _ _ _ _ c.items.ensures opened.0 c.tokens.view_is c.in-Ok.ensures.read)).0
       m.kept c.in_err-included.ensures.names
       (refused_as which mid c.in_ok-bytes.file _ around _ tokens _ c.loop-i.invariant.around
       (c.statement.ensures.tokens ∙ ap (λ s. slice_index_or s c.loop-i.i []) (sym c.tokens.view_is)) (c.in_err-included.ensures.refused which mid m.kept))));
   kept = λ which before was.
       told_as which (λ places. Unit {0}) before c.from_residual-in_err-included.result _ _ c.from_residual-in_err-included.ensures.1
-      (then_goes before c.loop-i.progress c.take.new.self (Err (halt_of c.in_err-included.field-0.0)) (c.loop-i.invariant.kept which before was)
-      (λ more kept. refused_goes more c.in_ok-bytes.file c.loop-i.progress.around.items (token_views c.statement.result.now) c.in_err-included.field-0.0 c.loop-i.progress c.take.new.self kept c.in_err-included.ensures.names (c.in_err-included.ensures.refused which more kept)));
+      (then_goes before c.loop-i.progress c.take_up.new.progress (Err (halt_of c.in_err-included.field-0.0)) (c.loop-i.invariant.kept which before was)
+      (λ more kept. refused_goes more c.in_ok-bytes.file c.loop-i.progress.around.items (token_views c.statement.result.now) c.in_err-included.field-0.0 c.loop-i.progress c.take_up.new.progress kept c.in_err-included.ensures.names (c.in_err-included.ensures.refused which more kept)));
   there = λ contents told are.
       finds contents.files c.from_residual-in_err-included.result _
       (subst (λ l. AreThere contents.files l.items) (sym c.in_err-included.ensures.names) (c.loop-i.invariant.there contents told are));
@@ -220,16 +220,16 @@ returns-in_err-read_file-in-Some g t c = record {
       let after = c.loop-i.invariant.told in
       told_as which _ before c.from_residual-in_err-read_file-in-Some.result _ _ c.from_residual-in_err-read_file-in-Some.ensures.1
       (midway_stops c.cut_or_stop.ensures c.statements_are_tokens.ensures c.tree_or_refusal.ensures c.args.progress.now.around.items c.read_file.new.progress _ within (has_read _ _ _ _ _ c.items.ensures opened.0 c.tokens.view_is c.in-Ok.ensures.read) m
-      (statement_reads c.args.deep contents.files around _ c.in_ok-bytes.file mid tokens c.in-Some.included.now (Err c.in_err-read_file-in-Some.field-0.0) c.take.new.self c.read_file.new.progress
+      (statement_reads c.args.deep contents.files around _ c.in_ok-bytes.file mid tokens c.in-Some.included.now (Err c.in_err-read_file-in-Some.field-0.0) c.take_up.new.progress c.read_file.new.progress
       c.if-deep-gt0.true (ap (λ a. a.items) c.in_ok-included.ensures.around ∙ c.loop-i.invariant.around)
-      (taken_as mid c.in_ok-bytes.file _ around _ tokens _ (Some c.in-Some.included.now) c.take.new.self c.loop-i.invariant.around
+      (taken_as mid c.in_ok-bytes.file _ around _ tokens _ (Some c.in-Some.included.now) c.take_up.new.progress c.loop-i.invariant.around
       (c.statement.ensures.tokens ∙ ap (λ s. slice_index_or s c.loop-i.i []) (sym c.tokens.view_is)) (ap option_copied c.in-Some.is) (c.in_ok-included.ensures.taken which mid m.kept))
       (λ more kept. c.in_err-read_file-in-Some.ensures.gone (with_rest after.0 contents) which more (tells_still after.0 _ _ contents after.1 told) kept)));
   kept = λ which before was.
-      let went : Gone which before c.take.new.self = then_goes before c.loop-i.progress c.take.new.self (Ok (tt {0})) (c.loop-i.invariant.kept which before was)
-      (λ more kept. let taken = c.in_ok-included.ensures.taken which more kept in said_goes more c.in_ok-bytes.file c.loop-i.progress.around.items taken.0 c.take.new.self taken.3) in
+      let went : Gone which before c.take_up.new.progress = then_goes before c.loop-i.progress c.take_up.new.progress (Ok (tt {0})) (c.loop-i.invariant.kept which before was)
+      (λ more kept. let taken = c.in_ok-included.ensures.taken which more kept in said_goes more c.in_ok-bytes.file c.loop-i.progress.around.items taken.0 c.take_up.new.progress taken.3) in
       told_as which (λ places. Unit {0}) before c.from_residual-in_err-read_file-in-Some.result _ _ c.from_residual-in_err-read_file-in-Some.ensures.1
-      (then_goes before c.take.new.self c.read_file.new.progress (Err c.in_err-read_file-in-Some.field-0.0) went (c.in_err-read_file-in-Some.ensures.kept which));
+      (then_goes before c.take_up.new.progress c.read_file.new.progress (Err c.in_err-read_file-in-Some.field-0.0) went (c.in_err-read_file-in-Some.ensures.kept which));
   there = λ contents told are.
       let after = c.loop-i.invariant.told in
       finds_as (Unit {0}) contents.files c.from_residual-in_err-read_file-in-Some.result _ _ c.from_residual-in_err-read_file-in-Some.ensures.1

@@ -4,7 +4,7 @@ use Rattle.cc_defs.specs.Resolved.{plain_query}
 use Rattle.cc_defs.specs.Trees.{plain_part, plain_query_item, plain_statement}
 use Rattle.cc_laws.specs.Questions.{items_of}
 use Rattle.cc_laws.proofs.Asking.{asked_so, asked_refused}
-use Rattle.cc_laws.proofs.questions.ask_statement.Goals as goal
+use Rattle.cc_laws.proofs.questions.question.Goals as goal
 
 pub returns-clause-refused : goal.returns-clause-refused
 returns-clause-refused c = λ left is.

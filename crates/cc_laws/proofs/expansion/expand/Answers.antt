@@ -7,7 +7,7 @@ use Rattle.cc_laws.specs.LawFaults.{law_refusal, part_fault}
 use Rattle.cc_laws.specs.Vocabulary.{vocabulary, vocabulary_of}
 use Rattle.cc_laws.proofs.Expansions.{expanded_so}
 use Rattle.cc_laws.proofs.Verdicts.{law_refused, listed_so, listed_refused}
-use Rattle.cc_laws.proofs.expansion.expand_statement.Goals as goal
+use Rattle.cc_laws.proofs.expansion.expand.Goals as goal
 
 pub returns-clause-expanded : goal.returns-clause-expanded
 returns-clause-expanded c = λ left is.

@@ -6,7 +6,7 @@ use Rattle.cc_laws.specs.Widening.{wide_laws, wide_part_fault, wide_refusal}
 use Rattle.cc_wide.specs.WideLaws.{plain_wide_base}
 use Rattle.cc_laws.proofs.Verdicts.{listed_so, listed_refused}
 use Rattle.cc_laws.proofs.Widened.{wide_refused, widened_so}
-use Rattle.cc_laws.proofs.wide.expand_wide_statement.Goals as goal
+use Rattle.cc_laws.proofs.wide.expand_wide.Goals as goal
 
 pub returns-clause-expanded : goal.returns-clause-expanded
 returns-clause-expanded c = λ left is.
