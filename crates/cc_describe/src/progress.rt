@@ -79,10 +79,20 @@ fn gives_taken_label(items: &[QueryItem<'_>], labels: &Labels) -> bool
 
 /// Puts an item behind the others of a list. It is of any type, so that its drop is one call.
 fn put_last<X: Drop>(list: &mut Vec<X>, item: X) -> Result<(), OutOfMemory>
-    ensures { OnOk result (list.new.items ≡ list.old.items ++ item ∷ []) }
+    ensures put { OnOk result (list.new.items ≡ list.old.items ++ item ∷ []) }
+    ensures unchanged { OnErr result (list.new.items ≡ list.old.items) }
 {
     list.push(item)?;
     Ok(())
+}
+
+/// Puts a name behind the others of a list.
+fn add_name(alloc: Global, names: &mut Vec<Name>, name: &str) -> Result<(), OutOfMemory>
+    ensures added { OnOk result (names.new.items ≡ names.old.items ++ name.now ∷ []) }
+    ensures unchanged { OnErr result (names.new.items ≡ names.old.items) }
+{
+    let name = Name::of(String::from_str(alloc, name)?);
+    put_last(names, name)
 }
 
 impl Progress {
@@ -165,9 +175,8 @@ impl Progress {
         if number >= 4_000_000_000 {
             return Err(OutOfMemory);
         }
-        let again = Name::of(String::from_str(alloc, name)?);
-        self.around.push(again)?;
-        self.names.push(Name::of(String::from_str(alloc, name)?))?;
+        add_name(alloc, &mut self.around, name)?;
+        add_name(alloc, &mut self.names, name)?;
         Ok(number as u32)
     }
 

@@ -9,10 +9,10 @@ pub returns-in-Ok-clause-kept : goal.returns-in-Ok-clause-kept
 returns-in-Ok-clause-kept c =
     on_ok_weaker c.put_last.result
     (λ is. ap (λ l. map plain_query l) is ∙ map-append plain_query c.label.new.self.queries.items (c.args.query ∷ []) ∙ ap (λ p. map plain_query p.queries.items ++ plain_query c.args.query ∷ []) c.label.ensures.rest)
-    c.put_last.ensures
+    c.put_last.ensures.put
 
 pub returns-in-Ok-clause-labelled : goal.returns-in-Ok-clause-labelled
-returns-in-Ok-clause-labelled c fresh = on_ok_weaker c.put_last.result (λ is. c.in-Ok.ensures.labelled fresh) c.put_last.ensures
+returns-in-Ok-clause-labelled c fresh = on_ok_weaker c.put_last.result (λ is. c.in-Ok.ensures.labelled fresh) c.put_last.ensures.put
 
 pub returns-in-Ok-clause-rest : goal.returns-in-Ok-clause-rest
 returns-in-Ok-clause-rest c =
