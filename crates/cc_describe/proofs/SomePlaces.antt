@@ -118,6 +118,13 @@ pub entered_first : {which : Heads} (before : List Place) (name : List ℕ) (old
     → AreFirstNames new.names.items (opened_in before ++ name ∷ [])
 entered_first before name old new was names = ([], sym (append-nil new.names.items ∙ names ∙ ap (λ l. l ++ name ∷ []) was.names))
 
+-- none is opened for want of memory
+pub unopened : {T : Type 0} {which : Heads} (before : List Place) (name bytes : List ℕ) (old new : Progress) (result : Result T Halt) → IsProgress which old before
+    → new.names.items ≡ old.names.items → IsErrAnd result (λ told. told ≡ halts.OutOfMemory) → IfErr result (λ halt. IsRefusedOpening before name bytes halt new)
+unopened before name bytes old new (Ok done) was same is = tt
+unopened before name bytes old new (Err told) was same is =
+    subst (λ halt. IsRefusedOpening before name bytes halt new) (sym is) (name ∷ [], sym (ap (λ l. l ++ name ∷ []) (same ∙ was.names)))
+
 -- all files together are too long
 all_refused : (before : List Place) (bytes : List ℕ) → length bytes ≤ limit_number limits.FileBytes → limit_number limits.TotalBytes < bytes_in before + length bytes
     → opening_refusal before bytes ≡ Some (past_at limits.TotalBytes (length (opened_in before)) 1)

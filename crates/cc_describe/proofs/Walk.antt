@@ -1,5 +1,5 @@
 -- A file is opened, and gone through statement by statement.
-use Rattle.std.proofs.Common.{◌≡◌, ◌∙◌, ℕ, zero, suc, ◌+◌, ◌-◌, ◌<◌, ◌≤◌, List, [], ◌∷◌, ◌++◌, length, take, drop, map, slice_index_or, unwrap_or, Option, Some, None, option_map, IfSome, IsSome, Result, Ok, Err, IsErrAnd, IsErrOf, OnOk, refl, sym, ap, subst, inl, inr, append_assoc, append-nil, length-append, arith}
+use Rattle.std.proofs.Common.{◌≡◌, ◌∙◌, ℕ, zero, suc, ◌+◌, ◌-◌, ◌<◌, ◌≤◌, List, [], ◌∷◌, ◌++◌, length, take, drop, map, slice_index_or, unwrap_or, Option, Some, None, option_map, IfSome, IsSome, Result, Ok, Err, IsErrAnd, IsErrOf, IfOk, OnOk, refl, sym, ap, subst, inl, inr, append_assoc, append-nil, length-append, arith}
 use Rattle.std.specs.Option.{option_or}
 use Rattle.std.specs.List.{AllByRecursion}
 use Rattle.std.proofs.lemmas.List.{take_all, take-append-le, take_more, take-append-drop}
@@ -497,6 +497,10 @@ as_told {T} {U} result halt is same = ap (as_err U T halts.ReadFault) (sym (err_
 pub errs_on : {T : Type 0} (P : Type 0) (result : Result T Halt) (halt : Halt) → IsErrAnd result (λ told. told ≡ halt) → OnOk result P
 errs_on P (Ok done) halt is = elim is [ ]
 errs_on P (Err told) halt is = tt
+
+pub errs_if : {T : Type 0} (P : T → Type 0) (result : Result T Halt) (halt : Halt) → IsErrAnd result (λ told. told ≡ halt) → IfOk result P
+errs_if P (Ok done) halt is = elim is [ ]
+errs_if P (Err told) halt is = tt
 
 -- a read that gave bytes did not fail
 pub read_no_fault : {T : Type 0} (done : T) → IsErrOf {T = T} (Ok done) stops.Failed → ⊥

@@ -1,43 +1,64 @@
-use Rattle.std.proofs.Common.{[], ◌<◌, ◌≤◌, ap, ◌∙◌, length, Err, IfErr, refl, subst, sym}
+use Rattle.std.proofs.Common.{List, [], ◌<◌, ◌≤◌, ap, arith, ◌∙◌, length, Err, IfErr, refl, subst, sym}
 use Rattle.cc_defs.specs.declared.refusal.Fault.TheVariants as faults
-use Rattle.cc_describe.specs.Places.{AreThere, content}
-use Rattle.cc_describe.specs.ProgressViews.{IsRefusedOpening}
+use Rattle.cc_describe.specs.declared.heads.Heads.{Heads}
+use Rattle.cc_describe.specs.Places.{AreThere, Place, content}
+use Rattle.cc_describe.specs.ProgressViews.{IsProgress, IsRefusedOpening}
 use Rattle.cc_describe.proofs.CallsKept.{keeps_names, keeps_read}
-use Rattle.cc_describe.proofs.Walk.{content_long, done_no_fault, no_fault, long_no_fault, long_there, read_no_fault, wanting_no_fault, untouched, content_is, is_opened, there_too, read_there, finds}
-use Rattle.cc_describe.proofs.SomePlaces.{entered_first, long_at, some_bytes, too_long, too_many}
+use Rattle.cc_describe.proofs.Walk.{content_long, done_no_fault, no_fault, long_no_fault, long_there, read_no_fault, wanting_no_fault, untouched, content_is, is_opened, there_too, read_there, finds, errs_if, errs_on}
+use Rattle.cc_describe.proofs.SomePlaces.{entered_first, long_at, some_bytes, too_long, too_many, unopened}
 use Rattle.cc_describe.proofs.files.open.Goals as goal
 
-pub returns-in_err-file-clause-after : goal.returns-in_err-file-clause-after
-returns-in_err-file-clause-after g c = untouched (g.D.Desk.seen c.args.desk.now).told
+pub returns-in_err-file : goal.returns-in_err-file
+returns-in_err-file g c =
+    let result = c.from_residual.result in
+    let is = c.from_residual.ensures.1 in
+    let same = c.in_err-file.ensures.unnamed in
+    record {
+      opened = λ contents which before told was. errs_if _ result _ is;
+      kept = λ which before was. errs_if _ result _ is;
+      within = errs_if _ result _ is;
+      around = errs_on _ result _ is;
+      refused = λ contents which before told was. unopened before c.args.name.now _ c.args.progress.now c.enter.new.self result was same is;
+      stopped = λ which before was. some_bytes before c.args.name.now [] c.enter.new.self result (unopened before c.args.name.now [] c.args.progress.now c.enter.new.self result was same is);
+      there = λ contents told are. finds contents.files result _ (subst (AreThere contents.files) (sym same) are);
+      failed = λ fault. absurd (no_fault result faults.OutOfMemory is fault);
+      calls = keeps_names _ same;
+      calm = λ other. (refl, refl);
+      after = untouched (g.D.Desk.seen c.args.desk.now).told;
+      begun = refl;
+      reads_count = omega (arith);
+      writes_count = omega (arith);
+    }
 
-pub returns-in_err-file-clause-calls : goal.returns-in_err-file-clause-calls
-returns-in_err-file-clause-calls g c = keeps_names _ c.in_err-file.ensures.unnamed
-
-pub returns-in_err-count-clause-calls : goal.returns-in_err-count-clause-calls
-returns-in_err-count-clause-calls g c =
-    keeps_read c.args.name.now _ (ap (λ p. p.names.items) c.in_err-count.ensures.rest ∙ c.in_ok-file.ensures.names) c.read_all.ensures.calls
-
-pub returns-in_err-count-clause-stopped : goal.returns-in_err-count-clause-stopped
-returns-in_err-count-clause-stopped g c which before was =
-    some_bytes before c.args.name.now c.in-Ok.bytes c.count.new.self c.from_residual-in_err-count.result
-    (too_many before c.args.name.now c.in-Ok.bytes c.in_ok-file.file (length c.items.result.now) _ c.args.progress.now c.enter.new.self c.count.new.self c.from_residual-in_err-count.result was
-    c.in_ok-file.ensures.number c.in_ok-file.ensures.names c.in_ok-file.ensures.rest (ap length c.items.ensures) (subst (λ n. length c.in-Ok.bytes ≤ n) c.number.ensures c.in-Ok.ensures.within) c.in_err-count.ensures.refused c.in_err-count.ensures.rest c.from_residual-in_err-count.ensures.1)
-
-pub returns-in_err-count-clause-refused : goal.returns-in_err-count-clause-refused
-returns-in_err-count-clause-refused g c contents which before told was =
-    subst (λ bytes. IfErr c.from_residual-in_err-count.result (λ halt. IsRefusedOpening before c.args.name.now bytes halt c.count.new.self)) (content_is _ contents c.args.name.now c.in-Ok.bytes told c.in-Ok.ensures.bytes)
-    (too_many before c.args.name.now c.in-Ok.bytes c.in_ok-file.file (length c.items.result.now) _ c.args.progress.now c.enter.new.self c.count.new.self c.from_residual-in_err-count.result was
-    c.in_ok-file.ensures.number c.in_ok-file.ensures.names c.in_ok-file.ensures.rest (ap length c.items.ensures) (subst (λ n. length c.in-Ok.bytes ≤ n) c.number.ensures c.in-Ok.ensures.within) c.in_err-count.ensures.refused c.in_err-count.ensures.rest c.from_residual-in_err-count.ensures.1)
-
-pub returns-in_err-count-clause-there : goal.returns-in_err-count-clause-there
-returns-in_err-count-clause-there g c contents told are =
-    finds contents.files c.from_residual-in_err-count.result _
-    (subst (λ p. AreThere contents.files p.names.items) (sym c.in_err-count.ensures.rest)
-    (subst (AreThere contents.files) (sym c.in_ok-file.ensures.names)
-    (there_too contents.files c.args.progress.now.names.items c.args.name.now are (read_there _ contents c.args.name.now c.in-Ok.bytes told c.in-Ok.ensures.bytes))))
-
-pub returns-in_err-count-clause-calm : goal.returns-in_err-count-clause-calm
-returns-in_err-count-clause-calm g c other = c.in-Ok.ensures.calm (read_no_fault _)
+pub returns-in_err-count : goal.returns-in_err-count
+returns-in_err-count g c =
+    let result = c.from_residual-in_err-count.result in
+    let is = c.from_residual-in_err-count.ensures.1 in
+    let named = ap (λ p. p.names.items) c.in_err-count.ensures.rest ∙ c.in_ok-file.ensures.names in
+    let refused : (which : Heads) (before : List Place) → IsProgress which c.args.progress.now before
+    → IfErr result (λ halt. IsRefusedOpening before c.args.name.now c.in-Ok.bytes halt c.count.new.self) = λ which before was.
+    too_many before c.args.name.now c.in-Ok.bytes c.in_ok-file.file (length c.items.result.now) _ c.args.progress.now c.enter.new.self c.count.new.self result was
+    c.in_ok-file.ensures.number c.in_ok-file.ensures.names c.in_ok-file.ensures.rest (ap length c.items.ensures) (subst (λ n. length c.in-Ok.bytes ≤ n) c.number.ensures c.in-Ok.ensures.within) c.in_err-count.ensures.refused c.in_err-count.ensures.rest is in
+    record {
+      opened = λ contents which before told was. errs_if _ result _ is;
+      kept = λ which before was. errs_if _ result _ is;
+      within = errs_if _ result _ is;
+      around = errs_on _ result _ is;
+      refused = λ contents which before told was.
+          subst (λ bytes. IfErr result (λ halt. IsRefusedOpening before c.args.name.now bytes halt c.count.new.self))
+          (content_is _ contents c.args.name.now c.in-Ok.bytes told c.in-Ok.ensures.bytes) (refused which before was);
+      stopped = λ which before was. some_bytes before c.args.name.now c.in-Ok.bytes c.count.new.self result (refused which before was);
+      there = λ contents told are.
+          finds contents.files result _ (subst (AreThere contents.files) (sym named)
+          (there_too contents.files c.args.progress.now.names.items c.args.name.now are (read_there _ contents c.args.name.now c.in-Ok.bytes told c.in-Ok.ensures.bytes)));
+      failed = λ fault. absurd (no_fault result _ is fault);
+      calls = keeps_read c.args.name.now _ named c.read_all.ensures.calls;
+      calm = λ other. c.in-Ok.ensures.calm (read_no_fault _);
+      after = c.read_all.ensures.after;
+      begun = c.read_all.ensures.begun;
+      reads_count = c.read_all.ensures.reads_count;
+      writes_count = c.read_all.ensures.writes_count;
+    }
 
 pub returns-in-Err-Failed : goal.returns-in-Err-Failed
 returns-in-Err-Failed g c = record {
