@@ -1,4 +1,4 @@
-//! What was read of a description, statement by statement.
+//! What was read of a description, statement by statement. What takes a statement up is lent it first: cc_laws says why.
 ghost use Rattle.std.specs.Prelude.{◌≡◌, ◌++◌, ◌∷◌, ◌<◌, ◌≤◌, ◌+◌, ◌-◌, [], List as Items, None, false, length, map, flat_map, take, option_copied, IfOk, IfErr, IfSome, OnOk, OnErr, IsTrue};
 ghost use Rattle.std.specs.List.{list_any};
 ghost use Rattle.cc_defs.specs.Declarations.{Declaration};
