@@ -1,7 +1,8 @@
 //! Readers of laws.
-ghost use Rattle.std.specs.Prelude.{◌≡◌, Err, drop, codes, IfOk, None, Option, Some};
+ghost use Rattle.std.specs.Prelude.{◌≡◌, Err, drop, codes, IfOk, List, None, Option, Some};
 ghost use Rattle.std.specs.Option.{option_map};
 ghost use Rattle.std.specs.Result.{MatchResult};
+ghost use Rattle.cc_defs.specs.declared.token.Token as token;
 ghost use Rattle.cc_defs.specs.Tokens.{AreTokens};
 ghost use Rattle.cc_defs.specs.Trees.{PlainTree, PlainLaw, boxed_tree, plain_law, plain_part, plain_term};
 ghost use Rattle.cc_defs.specs.Trees as trees;
@@ -15,7 +16,7 @@ ghost use Rattle.cc_text.specs.Views.{token_views};
 
 use crate::formulas::formula;
 use crate::operators::boxed;
-use crate::reading::{beside, both, made, made_boxed, placed};
+use crate::reading::{beside, made, made_boxed, placed};
 use crate::stop::Stop;
 use crate::terms::term;
 use crate::tokens::{next_token, word};
@@ -266,6 +267,18 @@ fn law<'s>(
     worded(alloc, tokens, at)
 }
 
+/// `noconcurrency`, read up to the place. It has no test.
+fn no_concurrency<'s>(alloc: Global, next: usize) -> Result<(Tested<'s>, usize), Stop>
+    ensures { (all : List token.Token) → Reads
+        (λ read. trees.Law (plain_law read.0.value) (option_map boxed_tree read.1))
+        all result (Some (trees.Law trees.NoConcurrency None, drop next (seen all))) }
+{
+    match boxed(alloc, LawTree::NoConcurrency) {
+        Ok(law) => Ok(((law, None), next)),
+        Err(_) => Err(Stop::OutOfMemory),
+    }
+}
+
 /// A law and its test; `noconcurrency` has none.
 #[tactic(auto, unfolding(crate::specs::Laws::tested_law_at))]
 fn tested<'s>(alloc: Global, tokens: &[Token<'s>], at: usize) -> Result<(Tested<'s>, usize), Stop>
@@ -275,7 +288,7 @@ fn tested<'s>(alloc: Global, tokens: &[Token<'s>], at: usize) -> Result<(Tested<
         tokens.now result (tested_law_at (drop at (seen tokens.now))) }
 {
     if let Ok(next) = word(tokens, at, "noconcurrency") {
-        return both(boxed(alloc, LawTree::NoConcurrency), placed(None, next));
+        return no_concurrency(alloc, next);
     }
     optional_behind(alloc, tokens, law(alloc, tokens, at), "where")
 }

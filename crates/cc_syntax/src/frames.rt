@@ -38,11 +38,11 @@ impl<'s> Frame<'s> {
             ≡ filled (plain_frame self.entry) (plain_tree tree.entry.value) }
     {
         match self {
-            Frame::Opened(Opening::Not) => Tree::Not(tree),
-            Frame::Opened(Opening::Paren) => Tree::Paren(tree),
-            Frame::Opened(Opening::ForAll(variable)) => Tree::ForAll(variable, tree),
-            Frame::Opened(Opening::Exists(variable)) => Tree::Exists(variable, tree),
-            Frame::Left(operator, left) => operator.joined(left, tree),
+            Frame::Opened(Opening::Not) => return Tree::Not(tree),
+            Frame::Opened(Opening::Paren) => return Tree::Paren(tree),
+            Frame::Opened(Opening::ForAll(variable)) => return Tree::ForAll(variable, tree),
+            Frame::Opened(Opening::Exists(variable)) => return Tree::Exists(variable, tree),
+            Frame::Left(operator, left) => return operator.joined(left, tree),
         }
     }
 

@@ -52,10 +52,10 @@ impl Operator {
             ≡ joined self (plain_tree left.entry.value) (plain_tree right.entry.value) }
     {
         match self {
-            Operator::Both => Tree::Both(left, right),
-            Operator::Either => Tree::Either(left, right),
-            Operator::Implies => Tree::Implies(left, right),
-            Operator::Same => Tree::Same(left, right),
+            Operator::Both => return Tree::Both(left, right),
+            Operator::Either => return Tree::Either(left, right),
+            Operator::Implies => return Tree::Implies(left, right),
+            Operator::Same => return Tree::Same(left, right),
         }
     }
 }
@@ -107,12 +107,12 @@ impl Comparing {
             (compared_as self) (plain_sum left.entry.value) (plain_sum right.entry.value) }
     {
         match self {
-            Comparing::Equal => Tree::Equal(left, right),
-            Comparing::Differ => Tree::Differ(left, right),
-            Comparing::Less => Tree::Less(left, right),
-            Comparing::AtMost => Tree::AtMost(left, right),
-            Comparing::More => Tree::More(left, right),
-            Comparing::AtLeast => Tree::AtLeast(left, right),
+            Comparing::Equal => return Tree::Equal(left, right),
+            Comparing::Differ => return Tree::Differ(left, right),
+            Comparing::Less => return Tree::Less(left, right),
+            Comparing::AtMost => return Tree::AtMost(left, right),
+            Comparing::More => return Tree::More(left, right),
+            Comparing::AtLeast => return Tree::AtLeast(left, right),
         }
     }
 }
