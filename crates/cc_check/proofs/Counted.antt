@@ -4,8 +4,9 @@ use Rattle.std.proofs.lemmas.List.{same_from_push}
 use Rattle.cc_defs.specs.declared.log.Version.TheVariants.{First}
 use Rattle.cc_defs.specs.Clauses.{Literal}
 use Rattle.cc_check.specs.Readers.{literals_in, numbers_in}
-use Rattle.cc_check.specs.Reading.{AreCounted, AreLiterals, AreNumbers, HasNoChain, HasNoNumbers, IsChainIn, IsNumberAt, IsSignedAt}
-use Rattle.cc_check.proofs.Rows.{LiteralsSoFar, NumbersSoFar, literals_begun, literals_done, literals_more, literals_shorter, numbers_begun, numbers_done, numbers_more, numbers_shorter, one_list}
+use Rattle.cc_check.specs.Reading.{AreCounted}
+use Rattle.cc_log.specs.Fronts.{AreLiterals, AreNumbers, HasNoChain, HasNoNumbers, IsChainIn, IsNumberAt, IsSignedAt}
+use Rattle.cc_log.proofs.Rows.{LiteralsSoFar, NumbersSoFar, literals_begun, literals_done, literals_more, literals_shorter, numbers_begun, numbers_done, numbers_more, numbers_shorter, one_list}
 use Rattle.cc_check.proofs.Taken.{text_front, text_literals}
 
 -- ---- numbers

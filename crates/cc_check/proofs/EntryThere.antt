@@ -8,11 +8,13 @@ use Rattle.cc_defs.specs.declared.log.Version.{Version}
 use Rattle.cc_defs.specs.declared.log.Version.TheVariants.{First, Second}
 use Rattle.cc_defs.specs.LogBytes.{AreEntries, BeginsWith, HasNoEntry, IsNumber, bytes_within, entry_bytes, literal_bytes, literal_number, number_bytes}
 use Rattle.cc_defs.specs.LogTexts.{IsShortLiteral, lines_in}
-use Rattle.cc_check.specs.Entries.{AreIn, AreLiteralsIn, AreNumbersIn, HasNoNumberWithin, IsNumberIn, IsNumberWithin}
+use Rattle.cc_log.specs.Entries.{AreIn, AreLiteralsIn, AreNumbersIn, HasNoNumberWithin, IsNumberIn, IsNumberWithin}
 use Rattle.cc_check.specs.Texts.{AreTexts}
-use Rattle.cc_check.proofs.EntryBytes.{begins, class_by, class_read, derived_read, heading_byte, no_chain, no_pairs, only_derived, row_parts, same_number_in, whole}
+use Rattle.cc_log.proofs.EntryBytes.{begins, class_by, class_read, row_parts, same_number_in, whole}
+use Rattle.cc_log.proofs.EntryBytes.{heading_byte}
+use Rattle.cc_check.proofs.EntryRead.{derived_read, no_chain, no_pairs, only_derived}
 use Rattle.cc_check.proofs.FirstTexts.{entry_some}
-use Rattle.cc_check.proofs.NumberBytes.{cases_within, cells, large_bytes, large_parts, literal_formed, none_behind, one_literal_in, one_number_in, out_behind, small_bytes}
+use Rattle.cc_log.proofs.NumberBytes.{cases_within, cells, large_bytes, large_parts, literal_formed, none_behind, one_literal_in, one_number_in, out_behind, small_bytes}
 
 -- ---- numbers
 

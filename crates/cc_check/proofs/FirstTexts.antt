@@ -12,13 +12,14 @@ use Rattle.cc_defs.specs.Sections.{HasNoForm}
 use Rattle.cc_check.specs.declared.line.Heading.{Heading}
 use Rattle.cc_check.specs.declared.line.Kind.{Kind}
 use Rattle.cc_check.specs.declared.line.Kind.TheVariants as kinds
-use Rattle.cc_check.specs.Entries.{HasNoHeading, IsEntryRead}
+use Rattle.cc_log.specs.Entries.{HasNoHeading}
+use Rattle.cc_check.specs.Reading.{IsEntryRead}
 use Rattle.cc_check.specs.Parts.{IsCut}
 use Rattle.cc_check.specs.declared.line.LineParts.{LineParts}
 use Rattle.cc_check.specs.Readers.{literals_of, numbers_of}
 use Rattle.cc_check.specs.Reading.{IsFirstRead, IsReadIn}
 use Rattle.cc_check.specs.Texts.{AreTexts, EndsLine, EndsTexts, IsFirstLine, IsFirstText}
-use Rattle.cc_check.proofs.EntryBytes.{one_entry}
+use Rattle.cc_log.proofs.EntryBytes.{one_entry}
 
 -- ---- version 1
 

@@ -1,9 +1,3 @@
-pub mod Numbers
-pub mod Spelled
-pub mod Signed
-pub mod Rows
-pub mod Lines
-pub mod Telling
 pub mod Verdicts
 pub mod Literals
 pub mod Chains
@@ -17,15 +11,6 @@ pub mod NextSections
 pub mod Headers
 pub mod SilentLogs
 pub mod Refuted
-pub mod NumberBytes
-pub mod ListBytes
 pub mod Taken
 pub mod Counted
-pub mod Behind
-pub mod WrittenBytes
-pub mod EntryBytes
-pub mod ConvertingLines
-pub mod ConvertingBytes
-pub mod ConvertingParts
-pub mod Converting
-pub mod ConvertingNames
+pub mod EntryRead

@@ -11,7 +11,7 @@ use Rattle.cc_check.specs.declared.line.Heading.{Heading}
 use Rattle.cc_check.specs.Parts.{IsInside, next_view}
 use Rattle.cc_check.specs.SectionTexts.{SectionBytes, SectionsAhead, AreAhead, AreAheadFrom, IsAheadBehind, IsTextOf}
 use Rattle.cc_check.specs.Texts.{AreTexts}
-use Rattle.cc_check.proofs.ConvertingLines.{one_spelled}
+use Rattle.cc_log.proofs.ConvertingLines.{one_spelled}
 use Rattle.cc_check.proofs.EntryThere.{texts_there}
 use Rattle.cc_check.proofs.FirstTexts.{one_list}
 

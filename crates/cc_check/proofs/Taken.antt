@@ -10,12 +10,13 @@ use Rattle.cc_defs.specs.declared.log.Version.TheVariants.{First, Second}
 use Rattle.cc_defs.specs.Clauses.{Literal}
 use Rattle.cc_defs.specs.LogBytes.{IsNumber, bytes_within, literal_bytes, literal_number, number_bytes}
 use Rattle.cc_defs.specs.LogTexts.{IsShort, IsShortLiteral, literal_text}
-use Rattle.cc_check.specs.Entries.{AreLiteralsIn, AreNumbersIn, HasNoLiteralIn, HasNoNumberIn, IsLiteralIn, IsNumberIn, IsNumberWithin}
-use Rattle.cc_check.specs.Readers.{as_literal, as_negative, as_positive, entry_number, is_high, list_from, literal_taken, literals_in, number_of, number_taken, numbers_in, plain_literal, plain_number, put_first, signed_of, with_low}
-use Rattle.cc_check.specs.Reading.{AreLiterals, AreNumbers, EndsNumber, HasNoNumber, HasNoSigned, IsNumberAt, IsSignedAt}
-use Rattle.cc_check.proofs.NumberBytes.{cases_within, large_bytes, literal_formed, small_bytes}
-use Rattle.cc_check.proofs.Numbers.{number_complete, number_sound}
-use Rattle.cc_check.proofs.Signed.{negative_signed, number_or_minus, positive_signed, same_literal, signed_cases}
+use Rattle.cc_log.specs.Entries.{AreLiteralsIn, AreNumbersIn, HasNoLiteralIn, HasNoNumberIn, IsLiteralIn, IsNumberIn, IsNumberWithin}
+use Rattle.cc_check.specs.Readers.{as_literal, as_negative, as_positive, entry_number, is_high, list_from, literal_taken, literals_in, number_taken, numbers_in, plain_literal, plain_number, put_first, signed_of, with_low}
+use Rattle.cc_log.specs.Fronts.{number_of}
+use Rattle.cc_log.specs.Fronts.{AreLiterals, AreNumbers, EndsNumber, HasNoNumber, HasNoSigned, IsNumberAt, IsSignedAt}
+use Rattle.cc_log.proofs.NumberBytes.{cases_within, large_bytes, literal_formed, small_bytes}
+use Rattle.cc_log.proofs.Numbers.{number_complete, number_sound}
+use Rattle.cc_log.proofs.Signed.{negative_signed, number_or_minus, positive_signed, same_literal, signed_cases}
 
 none_from : {X : Type 0} (o : Option (X × List ℕ)) → ((x : X) (rest : List ℕ) → o ≡ Some (x, rest) → ⊥) → o ≡ None
 none_from None never = refl

@@ -1,5 +1,4 @@
 pub mod Clauses
-pub mod Entries
 pub mod Laws
 pub mod Parts
 pub mod Readers
@@ -9,4 +8,3 @@ pub mod Silent
 pub mod SilentParts
 pub mod Splits
 pub mod Texts
-pub mod Versions

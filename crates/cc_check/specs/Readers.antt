@@ -1,26 +1,15 @@
 -- What stands in bytes one after another, as it is read from the front: numbers, literals, and the chain of a derived line.
-use Rattle.std.specs.Prelude.{ℕ, zero, suc, ◌+◌, ◌-◌, ◌*◌, ◌/◌, ◌%◌, ◌==◌, ◌&&◌, ◌||◌, not, nat_lt, if◌then◌else◌, Bool, true, false, List, [], ◌∷◌, drop, Option, Some, None, option_map}
+use Rattle.std.specs.Prelude.{ℕ, zero, suc, ◌+◌, ◌-◌, ◌*◌, ◌/◌, ◌%◌, ◌==◌, ◌&&◌, not, nat_lt, if◌then◌else◌, Bool, true, false, List, [], ◌∷◌, drop, Option, Some, None, option_map}
 use Rattle.std.specs.Borrow.{Bor}
 use Rattle.cc_defs.specs.declared.log.Version.{Version}
 use Rattle.cc_defs.specs.declared.log.Version.TheVariants.{First, Second}
 use Rattle.cc_defs.specs.Clauses.{Literal}
-use Rattle.cc_defs.specs.Tokens.{is_digit}
+use Rattle.cc_log.specs.Fronts.{number_of}
 use Rattle.cc_check.specs.declared.reader.NumberReader.{NumberReader}
 use Rattle.cc_check.specs.declared.reader.LiteralReader.{LiteralReader}
 use Rattle.cc_check.specs.declared.reader.ChainReader.{ChainReader}
 
 -- ---- one at the front, and what is behind it
-
--- the number of at most nine digits behind digits that make this number
-abbrev pub number_from : ℕ → List ℕ → Option (ℕ × List ℕ)
-number_from number [] = Some (number, [])
-number_from number (byte ∷ bytes) =
-    if is_digit byte then (if (number == 0) || nat_lt 99999999 number then None else number_from (10 * number + (byte - 48)) bytes)
-    else Some (number, byte ∷ bytes)
-
-abbrev pub number_of : List ℕ → Option (ℕ × List ℕ)
-number_of [] = None
-number_of (byte ∷ bytes) = if is_digit byte then number_from (byte - 48) bytes else None
 
 -- a number above its lowest seven bits: with 0 it would be one byte shorter, with more it is past 1999999999
 abbrev pub is_high : ℕ → Bool

@@ -5,7 +5,8 @@ ghost use Rattle.cc_defs.specs.declared.log.Version.TheVariants as versions;
 ghost use Rattle.cc_defs.specs.Clauses.{Literal};
 ghost use Rattle.cc_defs.specs.LogBytes.{end_word_bytes};
 ghost use Rattle.cc_defs.specs.LogBytes.{BeginsWith, HasNoEntry};
-ghost use Rattle.cc_check.specs.Entries.{AreLiteralsIn, AreNumbersIn, HasNoEnd, HasNoHeading, HasNoLiteralIn, HasNoLiteralsIn, HasNoNumberIn, HasNoNumberWithin, HasNoNumbersIn, IsEntryRead, IsLiteralIn, IsNoWord, IsNumberIn, IsNumberWithin};
+ghost use Rattle.cc_log.specs.Entries.{AreLiteralsIn, AreNumbersIn, HasNoEnd, HasNoHeading, HasNoLiteralIn, HasNoLiteralsIn, HasNoNumberIn, HasNoNumberWithin, HasNoNumbersIn, IsLiteralIn, IsNoWord, IsNumberIn, IsNumberWithin};
+ghost use Rattle.cc_check.specs.Reading.{IsEntryRead};
 ghost use Rattle.cc_check.specs.Readers.{literals_in, literals_of, numbers_in, numbers_of};
 
 use crate::line::{Heading, Kind, LineParts};

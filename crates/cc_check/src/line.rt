@@ -7,7 +7,8 @@ ghost use Rattle.cc_defs.specs.Clauses.{Literal};
 ghost use Rattle.cc_defs.specs.Logs.{IsNoHeading};
 ghost use Rattle.cc_defs.specs.Sections.{HasNoForm};
 ghost use Rattle.cc_check.specs.Readers.{literals_in, literals_of, numbers_in, numbers_of};
-ghost use Rattle.cc_check.specs.Reading.{AreCounted, AreLiterals, HasNoChain, HasNoNumbers, HasNoLiterals, IsChainIn, IsRead, IsNoEnd, IsLast};
+ghost use Rattle.cc_check.specs.Reading.{AreCounted, IsRead, IsNoEnd};
+ghost use Rattle.cc_log.specs.Fronts.{AreLiterals, HasNoChain, HasNoNumbers, HasNoLiterals, IsChainIn, IsLast};
 
 use crate::number::{number_at, signed_at};
 use crate::reader::{LiteralReader, NumberReader};

@@ -1,6 +1,6 @@
 //! Numbers and literals at the front of a text.
 ghost use Rattle.std.specs.Prelude.{◌≡◌, ℕ, ◌<◌, List, false, MatchOption};
-ghost use Rattle.cc_check.specs.Reading.{IsNumberAt, HasNoNumber, IsSignedAt, HasNoSigned};
+ghost use Rattle.cc_log.specs.Fronts.{IsNumberAt, HasNoNumber, IsSignedAt, HasNoSigned};
 
 use cc_defs::is_digit_byte;
 use std::marker::Model;

@@ -21,8 +21,8 @@ use Rattle.cc_defs.specs.Sections.{Finding, Right, Trailed, Wrong, IsFound}
 use Rattle.cc_theory.specs.Theories.{rules_refusal}
 use Rattle.cc_query.specs.Accepted.{subject_of}
 use Rattle.cc_judge.specs.Judging.{AreJudgedWithin, HasGoodAxioms, HasSections, limit_of}
-use Rattle.cc_check.specs.Versions.{HaveEntries}
-use Rattle.cc_check.proofs.Converting.{reading_of}
+use Rattle.cc_log.specs.Versions.{HaveEntries}
+use Rattle.cc_log.proofs.Converting.{reading_of}
 use Rattle.cc_convert.specs.Laws.{AcceptedLogsSayLines, SaysLines}
 use Rattle.cc_convert.specs.Saying.{AreSaid}
 use Rattle.cc_convert.proofs.Bounds.{form_low}

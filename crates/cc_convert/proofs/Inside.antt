@@ -15,7 +15,7 @@ use Rattle.cc_defs.specs.LogVersions.{counts_in, line_bytes, lines_bytes, own_be
 use Rattle.cc_defs.specs.Resolved.{Query}
 use Rattle.cc_defs.specs.Sections.{Axioms, Right, IsEnded, IsFound, IsJudged, row_denial}
 use Rattle.cc_query.specs.Accepted.{subject_of}
-use Rattle.cc_check.proofs.Converting.{own_pushed, reading_of}
+use Rattle.cc_log.proofs.Converting.{own_pushed, reading_of}
 use Rattle.cc_convert.specs.Saying.{AreSaid, IsSayableAt, OpensWithin}
 use Rattle.cc_convert.proofs.Bounds.{IsLowChain, denial_over, low_chain, over_most, over_push, row_low}
 use Rattle.cc_convert.proofs.Joined.{joined}

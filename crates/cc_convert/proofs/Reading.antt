@@ -3,13 +3,14 @@ use Rattle.std.proofs.Common.{◌≡◌, ◌∙◌, ◌++◌, ℕ, List, ◌∷�
 use Rattle.std.proofs.lemmas.List.{append_cancel_left}
 use Rattle.cc_check.specs.declared.line.Kind.{Kind}
 use Rattle.cc_check.specs.declared.line.Kind.TheVariants as kinds
-use Rattle.cc_check.specs.Entries.{HasNoHeading, IsEntryRead}
+use Rattle.cc_log.specs.Entries.{HasNoHeading}
+use Rattle.cc_check.specs.Reading.{IsEntryRead}
 use Rattle.cc_check.specs.Reading.{IsRead}
 use Rattle.cc_check.specs.Texts.{IsFirstLine}
-use Rattle.cc_check.proofs.ConvertingLines.{meant}
-use Rattle.cc_check.proofs.EntryBytes.{one_entry}
-use Rattle.cc_check.proofs.Lines.{one_line}
-use Rattle.cc_check.proofs.Telling.{ends_once, first_text}
+use Rattle.cc_log.proofs.ConvertingLines.{meant}
+use Rattle.cc_log.proofs.EntryBytes.{one_entry}
+use Rattle.cc_log.proofs.Lines.{one_line}
+use Rattle.cc_log.proofs.Telling.{ends_once, first_text}
 use Rattle.cc_defs.specs.declared.log.LogLine.{LogLine}
 use Rattle.cc_defs.specs.declared.log.LogLine.TheVariants as lines
 use Rattle.cc_defs.specs.declared.log.Version.TheVariants.{First, Second}

@@ -10,8 +10,8 @@ use Rattle.cc_defs.specs.Limits.{most_log_bytes, most_variables}
 use Rattle.cc_defs.specs.LogBytes.{IsNumber, IsSpelled, chain_behind, entry_bytes, line_meant}
 use Rattle.cc_defs.specs.LogTexts.{IsOdd, IsShort, IsShortLiteral, line_text, literal_text}
 use Rattle.cc_defs.specs.LogVersions.{AreEarlier, line_bytes}
-use Rattle.cc_check.proofs.Lines.{whole_block, whole_derived}
-use Rattle.cc_check.proofs.Spelled.{literals_text, numbers_text}
+use Rattle.cc_log.proofs.Lines.{whole_block, whole_derived}
+use Rattle.cc_log.proofs.Spelled.{literals_text, numbers_text}
 use Rattle.cc_convert.specs.Saying.{IsSayableAt}
 use Rattle.cc_convert.proofs.Bounds.{IsLowChain}
 

@@ -1,6 +1,6 @@
 -- What an accepted log says.
 use Rattle.std.specs.Prelude.{◌≡◌, ◌≤◌, ℕ, List, length, Option}
-use Rattle.cc_check.specs.Versions.{HaveEntries}
+use Rattle.cc_log.specs.Versions.{HaveEntries}
 use Rattle.cc_defs.specs.declared.lists.Key.{Key}
 use Rattle.cc_defs.specs.declared.log.LogLine.{LogLine}
 use Rattle.cc_defs.specs.declared.log.LogVerdict.TheVariants as verdicts

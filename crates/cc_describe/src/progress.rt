@@ -290,7 +290,7 @@ fn declare(
     ensures around { progress.new.around ≡ progress.old.around }
     ensures names { progress.new.names ≡ progress.old.names }
 {
-    progress.table.declare(file, statement)?;
+    cc_sorts::declare(statement, file, &mut progress.table)?;
     add_laws(alloc, statement, file, progress)
 }
 

@@ -2,8 +2,8 @@
 use Rattle.std.proofs.Common.{◌≡◌, ◌∙◌, ℕ, List, [], ◌∷◌, ◌++◌, map, sym, subst, ap, append_assoc, refl}
 use Rattle.std.specs.Prelude.{decimal}
 use Rattle.std.specs.List.{AllByRecursion, join_with_byte}
-use Rattle.cc_check.specs.Reading.{HasNoNumber, IsNumberAt}
-use Rattle.cc_check.proofs.Numbers.{no_number, one_number}
+use Rattle.cc_log.specs.Fronts.{HasNoNumber, IsNumberAt}
+use Rattle.cc_log.proofs.Numbers.{no_number, one_number}
 use Rattle.cc_defs.specs.LogTexts.{IsShort}
 use Rattle.cc_general.specs.RivalParts.{AreIndexes, IsRowText}
 

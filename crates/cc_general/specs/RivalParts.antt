@@ -1,6 +1,6 @@
 -- The parts of a heading of rivals, and what the rivals of a log are of.
 use Rattle.std.specs.Prelude.{◌≡◌, ℕ, ◌≤◌, List, [], ◌∷◌}
-use Rattle.cc_check.specs.Reading.{IsNumberAt}
+use Rattle.cc_log.specs.Fronts.{IsNumberAt}
 use Rattle.cc_defs.specs.declared.lists.Key.{Key}
 use Rattle.cc_defs.specs.GroundLaws.{PlainGroundQuery, StandsForQuery}
 use Rattle.cc_defs.specs.Limits.{most_steps}

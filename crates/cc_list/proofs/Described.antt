@@ -1,6 +1,6 @@
 -- A description that was read, by its places, and what is listed or refused of it.
 use Rattle.std.proofs.Common.{append-nil, ◌≡◌, ◌∙◌, refl, sym, ap, subst, ℕ, List, [], ◌++◌, map, Option, Some, None, IfSome, Result, Err, inl, inr}
-use Rattle.cc_asked.specs.Descriptions.{IsDescriptionOf, description_of}
+use Rattle.cc_list.specs.Descriptions.{IsDescriptionOf, description_of}
 use Rattle.cc_defs.specs.declared.lists.Key.{Key}
 use Rattle.cc_defs.specs.declared.refusal.Refusal.{Refusal}
 use Rattle.cc_defs.specs.Resolved.{Query, plain_query}

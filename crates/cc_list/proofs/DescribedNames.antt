@@ -1,6 +1,6 @@
 -- The names of a table and a signature are those of the description that was read with them.
 use Rattle.std.proofs.Common.{◌≡◌, ap, map}
-use Rattle.cc_asked.specs.Descriptions.{IsDescriptionOf, IsWideDescriptionOf}
+use Rattle.cc_list.specs.Descriptions.{IsDescriptionOf, IsWideDescriptionOf}
 use Rattle.cc_defs.specs.Description.{Description}
 use Rattle.cc_defs.specs.Resolved.{plain_base_law}
 use Rattle.cc_describe.specs.declared.description.Described.{Described}

@@ -7,7 +7,7 @@ use Rattle.cc_defs.specs.ClauseForms.{positive}
 use Rattle.cc_defs.specs.Clauses.{Literal, IsBefore, IsClause, IsOver, IsResolvent, Reaches, ReachesFrom, opposite}
 use Rattle.cc_defs.specs.Rows.{IsRow}
 use Rattle.cc_defs.specs.Sections.{denial_from, row_denial}
-use Rattle.cc_check.specs.Entries.{AreBefore}
+use Rattle.cc_log.specs.Entries.{AreBefore}
 
 pub in_first : {A : Type 0} (x : A) (xs : List A) → Contains (x ∷ xs) x
 in_first x xs = (zero, omega arith, refl)

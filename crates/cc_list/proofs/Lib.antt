@@ -4,6 +4,7 @@ pub mod DescribedNames
 pub mod EventNumbers
 pub mod EventTexts
 pub mod GoodClauses
+pub mod Grounded
 pub mod Listed
 pub mod LogsAccepted
 pub mod Named

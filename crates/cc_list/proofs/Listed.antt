@@ -2,7 +2,7 @@
 use Rattle.std.proofs.Common.{◌≡◌, ◌≢◌, ℕ, ◌<◌, ◌≤◌, Bool, List, [], ◌∷◌, ◌++◌, Option, Some, None, Result, Ok, Err, refl, sym, ap, subst, ◌∙◌, append_assoc, append-nil, arith, true, false, inl, inr}
 use Rattle.std.specs.Prelude.{IsErrAnd, IfOk, IsNone, is_some}
 use Rattle.cc_arena.specs.declared.ground_laws.GroundLaw.{GroundLaw}
-use Rattle.cc_asked.specs.Descriptions.{IsDescriptionOf}
+use Rattle.cc_list.specs.Descriptions.{IsDescriptionOf}
 use Rattle.cc_defs.specs.declared.event.Ending.{Ending}
 use Rattle.cc_defs.specs.declared.event.Event.{Event}
 use Rattle.cc_defs.specs.declared.event.Event.TheVariants as events

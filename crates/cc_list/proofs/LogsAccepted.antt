@@ -2,8 +2,8 @@
 use Rattle.std.proofs.Common.{◌≡◌, ℕ, ◌≤◌, Bool, List, [], ◌∷◌, ◌++◌, map, Option, Some, None, refl, sym, ap, subst, ◌∙◌, append-nil, arith, inl, inr}
 use Rattle.std.specs.Prelude.{flat_map, IfSome}
 use Rattle.std.specs.List.{AllByRecursion}
-use Rattle.cc_check.specs.Laws.{WrittenLinesAreEntries}
-use Rattle.cc_check.specs.Versions.{HaveEntries}
+use Rattle.cc_log.specs.Laws.{WrittenLinesAreEntries}
+use Rattle.cc_log.specs.Versions.{HaveEntries}
 use Rattle.cc_defs.specs.declared.event.Ending.{Ending}
 use Rattle.cc_defs.specs.declared.event.Ending.TheVariants as endings
 use Rattle.cc_defs.specs.declared.event.Event.TheVariants as events

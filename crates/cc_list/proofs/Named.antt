@@ -17,7 +17,7 @@ use Rattle.cc_defs.specs.Refusals.{IsRefusedBy}
 use Rattle.cc_defs.specs.Resolved.{Condition, Query}
 use Rattle.cc_defs.specs.Universe.{Universe}
 use Rattle.cc_describe.specs.declared.description.Described.{Described}
-use Rattle.cc_asked.specs.Descriptions.{IsDescriptionOf, ground_refusal}
+use Rattle.cc_list.specs.Descriptions.{IsDescriptionOf, ground_refusal}
 use Rattle.cc_ground.specs.Counting.{laws_refusal}
 use Rattle.cc_laws.specs.Questions.{first, steps_refusal}
 use Rattle.cc_print.specs.Keys.{IsKeyText}

@@ -1,6 +1,7 @@
 pub mod Answers
 pub mod Asking
 pub mod Bounds
+pub mod Descriptions
 pub mod Laws
 pub mod Listing
 pub mod Names

@@ -1,8 +1,7 @@
--- What a run works on: the description, the query and the key that its words name, or a description that it makes; and what is
--- refused of these, in order.
+-- What a run works on: the description, the query and the key that its words name; and what is refused of these, in order.
 use Rattle.std.specs.Prelude.{◌≡◌, ℕ, ◌≤◌, ◌⊎◌, Bool, false, List, [], Option, Some, None, IsNone, find, option_and_then}
 use Rattle.std.specs.Option.{option_or, option_map_or}
-use Rattle.cc_asked.specs.Descriptions.{description_of, ground_refusal}
+use Rattle.cc_list.specs.Descriptions.{description_of, ground_refusal}
 use Rattle.cc_defs.specs.declared.lists.Key.{Key}
 use Rattle.cc_defs.specs.declared.refusal.Refusal.{Refusal}
 use Rattle.cc_defs.specs.Description.{Description, sizes_at}

@@ -1,7 +1,7 @@
 //! What words name of a description that was read.
 ghost use Rattle.std.specs.Prelude.{◌≡◌, ℕ, ◌≤◌, IfOk, IfErr, IfSome, None, Some, find, map, option_map};
 ghost use Rattle.cc_arena.specs.GroundViews.{plain_ground_query};
-ghost use Rattle.cc_asked.specs.Descriptions.{IsDescriptionOf};
+ghost use Rattle.cc_list.specs.Descriptions.{IsDescriptionOf};
 ghost use Rattle.cc_defs.specs.Limits.{most_steps};
 ghost use Rattle.cc_defs.specs.Conditions.{IsSignatureOfDescription};
 ghost use Rattle.cc_defs.specs.Description.{Description};
@@ -21,8 +21,8 @@ ghost use Rattle.cc_sorts.specs.Tables.{IsSignatureFor};
 ghost use Rattle.cc_words.specs.Views.{plain_text};
 ghost use Rattle.cc_words.specs.Words.{Text};
 
+use crate::asked::{laws_of, query_of};
 use cc_arena::{GroundQuery, Laws, Terms};
-use cc_asked::{laws_of, query_of};
 use cc_defs::{Fault, Key, Query, Refusal, Sig};
 use cc_describe::Described;
 use cc_laws::query_steps;

@@ -1,7 +1,7 @@
 //! Laws of what a run leaves behind, each the contract of a function that calls the laws that it rests on.
 ghost use Rattle.cc_list.specs.Laws.{LogLaws, TextsTellOneRun};
 
-use cc_check::laws::{
+use cc_log::laws::{
     accepted_logs_are_sayable, logs_tell_their_lines, other_versions_are_judged_alike,
     written_lines_are_entries,
 };

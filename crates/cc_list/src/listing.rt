@@ -1,6 +1,6 @@
 //! List mode: the first histories of a query, each event as it comes.
 ghost use Rattle.std.specs.Prelude.{◌≤◌, [], IfSome, is_some};
-ghost use Rattle.cc_asked.specs.Descriptions.{IsDescriptionOf};
+ghost use Rattle.cc_list.specs.Descriptions.{IsDescriptionOf};
 ghost use Rattle.cc_defs.specs.Description.{Description};
 ghost use Rattle.cc_defs.specs.Resolved.{Query};
 ghost use Rattle.cc_describe.specs.declared.heads.Heads.TheVariants as heads;

@@ -1,7 +1,7 @@
 //! A search, told event by event: what all modes that search share.
 ghost use Rattle.std.specs.Prelude.{◌≡◌, ◌<◌, ◌≤◌, ℕ, Bool, List, ◌∷◌, ◌++◌, [], IfOk, IfSome, IsNone};
 ghost use Rattle.cc_arena.specs.GroundViews.{plain_ground_query};
-ghost use Rattle.cc_asked.specs.Descriptions.{IsDescriptionOf};
+ghost use Rattle.cc_list.specs.Descriptions.{IsDescriptionOf};
 ghost use Rattle.cc_defs.specs.Description.{Description};
 ghost use Rattle.cc_defs.specs.declared.event.Told.{Told};
 ghost use Rattle.cc_defs.specs.Limits.{most_clauses};

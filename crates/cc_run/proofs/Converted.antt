@@ -4,8 +4,8 @@ use Rattle.std.specs.Prelude.{not, suc, zero, ◌+◌, ◌/◌, IsErrAnd, decima
 use Rattle.std.specs.List.{join_with_byte}
 use Rattle.std.proofs.lemmas.List.{length-map}
 use Rattle.cc_arena.specs.declared.ground_laws.GroundLaw.{GroundLaw}
-use Rattle.cc_check.specs.Entries.{AreBefore, HasShortLists, NamesBefore}
-use Rattle.cc_check.specs.Versions.{OtherVersionsAreJudgedAlike}
+use Rattle.cc_log.specs.Entries.{AreBefore, HasShortLists, NamesBefore}
+use Rattle.cc_log.specs.Versions.{OtherVersionsAreJudgedAlike}
 use Rattle.cc_convert.specs.Laws.{AcceptedLogsSayLines, SaysLines}
 use Rattle.cc_defs.specs.declared.event.Event.TheVariants as events
 use Rattle.cc_defs.specs.declared.lists.Key.{Key}

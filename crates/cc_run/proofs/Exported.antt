@@ -4,7 +4,7 @@ use Rattle.std.specs.Prelude.{◌||◌, IfErr, IsErrAnd, OnOk}
 use Rattle.std.specs.Option.{option_or}
 use Rattle.std.proofs.lemmas.Bool.{ltb-false}
 use Rattle.std.proofs.lemmas.List.{drop_all}
-use Rattle.cc_asked.specs.Descriptions.{ground_refusal}
+use Rattle.cc_list.specs.Descriptions.{ground_refusal}
 use Rattle.cc_defs.specs.ClauseLists.{ClauseList, clause_list}
 use Rattle.cc_defs.specs.Clauses.{Literal}
 use Rattle.cc_defs.specs.declared.refusal.Fault.{Fault}

@@ -1,7 +1,7 @@
 -- How a run over candidates is told, event by event, up to its end.
 use Rattle.std.proofs.Common.{◌≡◌, ◌∙◌, refl, sym, ap, subst, ℕ, ◌<◌, List, [], append-nil, Option, Some, None, Result, Ok, Err, IfOk, inr}
 use Rattle.std.specs.Prelude.{IsErrAnd, IsNone}
-use Rattle.cc_asked.specs.Descriptions.{IsWideDescriptionOf}
+use Rattle.cc_list.specs.Descriptions.{IsWideDescriptionOf}
 use Rattle.cc_defs.specs.declared.refusal.Refusal.{Refusal}
 use Rattle.cc_defs.specs.GroundLaws.{PlainGroundQuery, StandsForQuery}
 use Rattle.cc_defs.specs.Resolved.{Query}

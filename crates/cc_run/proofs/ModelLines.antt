@@ -4,7 +4,7 @@ use Rattle.std.specs.Prelude.{Contains, flat_map, sum}
 use Rattle.std.specs.List.{AllByRecursion}
 use Rattle.std.proofs.lemmas.Grind.{flat_map-append}
 use Rattle.std.proofs.lemmas.List.Elements.{Contains-push}
-use Rattle.cc_check.specs.Entries.{AreBefore}
+use Rattle.cc_log.specs.Entries.{AreBefore}
 use Rattle.cc_defs.specs.declared.log.LogLine.TheVariants as lines
 use Rattle.cc_defs.specs.Clauses.{Literal}
 use Rattle.cc_defs.specs.Rows.{IsRow}

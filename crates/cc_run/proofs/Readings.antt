@@ -1,7 +1,7 @@
 -- A description that was read, by its places, and what is listed or refused of it.
 use Rattle.std.proofs.Common.{Bool, ◌≡◌, ◌∙◌, refl, sym, ap, subst, ℕ, List, [], ◌∷◌, ◌++◌, append-nil, map, Option, Some, None, IfSome, Result, Ok, inl, inr, ◌≤◌, IfOk, arith, option_map}
 use Rattle.std.specs.Prelude.{IfErr, IsErrOf}
-use Rattle.cc_asked.specs.Descriptions.{IsWideDescriptionOf, wide_description_of}
+use Rattle.cc_list.specs.Descriptions.{IsWideDescriptionOf, wide_description_of}
 use Rattle.cc_defs.specs.declared.lists.Key.{Key}
 use Rattle.cc_defs.specs.declared.refusal.Refusal.{Refusal}
 use Rattle.cc_defs.specs.Description.{Description}

@@ -2,7 +2,7 @@
 use Rattle.std.proofs.Common.{◌≡◌, ◌∙◌, refl, sym, ap, subst, ℕ, ◌<◌, List, [], append-nil, append_assoc, Option, Some, None, Result, Ok, Err, IfOk, inr}
 use Rattle.std.specs.Prelude.{IsErrAnd, IsNone, IsSome, ◌≢◌}
 use Rattle.cc_arena.specs.declared.ground_laws.GroundLaw.{GroundLaw}
-use Rattle.cc_asked.specs.Descriptions.{IsDescriptionOf}
+use Rattle.cc_list.specs.Descriptions.{IsDescriptionOf}
 use Rattle.cc_defs.specs.declared.refusal.Refusal.{Refusal}
 use Rattle.cc_defs.specs.Description.{Description}
 use Rattle.cc_defs.specs.GroundLaws.{PlainGroundQuery, StandsForQuery}

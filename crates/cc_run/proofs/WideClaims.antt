@@ -4,7 +4,7 @@ use Rattle.std.specs.Prelude.{IfErr, IsErrAnd, IsNone}
 use Rattle.std.specs.Option.{option_or}
 use Rattle.cc_arena.specs.GroundViews.{plain_ground_query}
 use Rattle.cc_arena.specs.declared.ground_laws.GroundQuery.{GroundQuery}
-use Rattle.cc_asked.specs.Descriptions.{IsDescriptionOf, IsWideDescriptionOf, description_of, ground_refusal_of, wide_description_of}
+use Rattle.cc_list.specs.Descriptions.{IsDescriptionOf, IsWideDescriptionOf, description_of, ground_refusal_of, wide_description_of}
 use Rattle.cc_defs.specs.declared.refusal.Fault.{Fault}
 use Rattle.cc_defs.specs.declared.refusal.Fault.TheVariants as faults
 use Rattle.cc_defs.specs.declared.refusal.Refusal.{Refusal}

@@ -1,6 +1,6 @@
 -- What is ground of a description whose heads are of any form is what candidates and rivals ask for.
 use Rattle.std.proofs.Common.{◌≡◌, sym, ap, subst, List, map}
-use Rattle.cc_asked.specs.Descriptions.{wide_description_of}
+use Rattle.cc_list.specs.Descriptions.{wide_description_of}
 use Rattle.cc_defs.specs.Declarations.{Declaration}
 use Rattle.cc_defs.specs.Signatures.{Signature}
 use Rattle.cc_defs.specs.Universe.{universe, HaveOwnValues}

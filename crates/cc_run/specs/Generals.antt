@@ -1,7 +1,7 @@
 -- What general mode works on, and how a run over candidates is told, step by step.
 use Rattle.std.specs.Prelude.{◌≡◌, ◌⊎◌, ℕ, ◌≤◌, List, [], Option, Some, None, IfOk, IsNone, IsSome, Result}
 use Rattle.std.specs.List.{AllByRecursion}
-use Rattle.cc_asked.specs.Descriptions.{IsWideDescriptionOf}
+use Rattle.cc_list.specs.Descriptions.{IsWideDescriptionOf}
 use Rattle.cc_defs.specs.declared.refusal.Fault.{Fault}
 use Rattle.cc_defs.specs.declared.refusal.Fault.TheVariants as faults
 use Rattle.cc_defs.specs.GroundLaws.{PlainGroundQuery, StandsForQuery}

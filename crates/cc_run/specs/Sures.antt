@@ -1,7 +1,7 @@
 -- What sure mode works on, and how a run on certain and possible atoms is told, step by step.
 use Rattle.std.specs.Prelude.{◌≡◌, ◌⊎◌, ℕ, List, [], Option, Some, None, IfOk, IsNone, IsSome, Result, if◌then◌else◌, is_some, option_and_then}
 use Rattle.std.specs.List.{AllByRecursion}
-use Rattle.cc_asked.specs.Descriptions.{IsDescriptionOf}
+use Rattle.cc_list.specs.Descriptions.{IsDescriptionOf}
 use Rattle.cc_defs.specs.declared.refusal.Fault.{Fault}
 use Rattle.cc_defs.specs.declared.refusal.Fault.TheVariants as faults
 use Rattle.cc_defs.specs.declared.refusal.Refusal.{Refusal}

@@ -1,6 +1,6 @@
 //! The row that words name of a description that was read, and whether it is a history.
 ghost use Rattle.std.specs.Prelude.{◌≡◌, ◌≤◌, ◌↔◌, IfErr, IfOk, IsTrue, None, OnOk};
-ghost use Rattle.cc_asked.specs.Descriptions.{IsDescriptionOf};
+ghost use Rattle.cc_list.specs.Descriptions.{IsDescriptionOf};
 ghost use Rattle.cc_defs.specs.Conditions.{IsSignatureOfDescription};
 ghost use Rattle.cc_defs.specs.Description.{Description, sizes_at};
 ghost use Rattle.cc_defs.specs.Limits.{most_steps};
@@ -16,9 +16,9 @@ ghost use Rattle.cc_theory.specs.Theories.{AreLawsFor, AreLawsOf, rules_refusal}
 ghost use Rattle.cc_words.specs.Words.{Text};
 
 use cc_arena::{Laws, Terms};
-use cc_asked::laws_of;
 use cc_defs::{Fault, Key, LimitAt, Refusal, Sig};
 use cc_describe::Described;
+use cc_list::laws_of;
 use cc_print::laws::one_key;
 use cc_print::read_key;
 use cc_query::is_row;

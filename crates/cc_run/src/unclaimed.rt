@@ -1,7 +1,7 @@
 //! What words name of a description that was read, where a query with a claim is refused.
 ghost use Rattle.std.specs.Prelude.{◌≡◌, IfErr, IfOk, IsNone, None, map};
 ghost use Rattle.cc_arena.specs.GroundViews.{plain_ground_query};
-ghost use Rattle.cc_asked.specs.Descriptions.{IsDescriptionOf};
+ghost use Rattle.cc_list.specs.Descriptions.{IsDescriptionOf};
 ghost use Rattle.cc_defs.specs.Description.{Description};
 ghost use Rattle.cc_defs.specs.Resolved.{Query as QueryAsked, plain_query};
 ghost use Rattle.cc_describe.specs.Describing.{AsksFormulas, HasForms};

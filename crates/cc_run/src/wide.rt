@@ -1,7 +1,7 @@
 //! What words name of a description that was read, where heads may be of any form.
 ghost use Rattle.std.specs.Prelude.{◌≡◌, IfErr, IfOk, map};
 ghost use Rattle.cc_arena.specs.GroundViews.{plain_ground_query};
-ghost use Rattle.cc_asked.specs.Descriptions.{IsWideDescriptionOf};
+ghost use Rattle.cc_list.specs.Descriptions.{IsWideDescriptionOf};
 ghost use Rattle.cc_defs.specs.Resolved.{Query as QueryAsked, plain_query};
 ghost use Rattle.cc_describe.specs.Describing.{AsksFormulas, HasWideForms};
 ghost use Rattle.cc_run.specs.Generals.{IsWideFault, IsWideUnclaimed};

@@ -1,6 +1,6 @@
 //! The ground laws of a description whose heads may be of any form.
 ghost use Rattle.std.specs.Prelude.{◌≡◌, IfOk, IfErr, OnOk, None};
-ghost use Rattle.cc_asked.specs.Descriptions.{IsWideDescriptionOf};
+ghost use Rattle.cc_list.specs.Descriptions.{IsWideDescriptionOf};
 ghost use Rattle.cc_defs.specs.Refusals.{IsRefusedBy};
 ghost use Rattle.cc_describe.specs.Describing.{HasWideForms};
 ghost use Rattle.cc_rivals.specs.Wides.{AreWideLawsFor, AreWideLawsOf};

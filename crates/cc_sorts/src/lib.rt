@@ -2,8 +2,8 @@
 #![tactic(auto)]
 
 mod declaration;
-mod declare;
 mod dictionary;
+mod entering;
 mod fault;
 pub mod laws;
 mod left;
@@ -17,4 +17,4 @@ mod signature;
 mod sorts;
 mod table;
 
-pub use table::Table;
+pub use table::{Table, declare};

@@ -11,6 +11,7 @@ ghost use Rattle.cc_defs.specs.Signatures.{number_at};
 ghost use Rattle.cc_sorts.specs.SortViews.{name_at, members_at};
 ghost use Rattle.cc_sorts.specs.Tables.{symbol_names, IsTable, IsOfDeclarations, Declares, HasRefused, IsUnchangedBy, IsSignatureOf, IsSignatureFor};
 
+use crate::entering::enter;
 use crate::register::Register;
 use cc_defs::{Fault, OutOfMemory, Sig, Statement, Symbol};
 use std::alloc::Global;
@@ -61,21 +62,6 @@ impl Table {
             register: Register::new(alloc)?,
             alloc,
         })
-    }
-
-    /// Declares what a statement of sorts, objects, variables or constants says. Refuses, at the statement's line, the
-    /// least number of a fault: a name or a pair given twice (4), an unknown sort or action (5), an attribute whose action
-    /// has another number of arguments (6), or a sort that does not fit (7); then too many objects (14, with the limit
-    /// objects). After a refusal nothing is changed; after want of memory a front of a statement without a fault is there.
-    pub fn declare(&mut self, file: u32, statement: &Statement<'_>) -> Result<(), Fault>
-        ensures declared { (left : Items Declared) → IsTable self.old left →
-            OnOk result (Declares file left (plain_statement statement.now) self.new) }
-        ensures refused { (left : Items Declared) → IsTable self.old left →
-            IfErr result (HasRefused file left (plain_statement statement.now) self.old self.new) }
-        ensures unchanged { IfErr result (IsUnchangedBy self.old self.new) }
-    {
-        let alloc = self.alloc;
-        self.register.declare(alloc, file, statement)
     }
 
     /// The ground constants of all that was declared: instances in the order of their arguments, fluents before actions.
@@ -243,4 +229,19 @@ impl Table {
     {
         self.register.below(lower, upper)
     }
+}
+
+/// Declares in a table what a statement of sorts, objects, variables or constants says. Refuses, at the statement's line, the
+/// least number of a fault: a name or a pair given twice (4), an unknown sort or action (5), an attribute whose action
+/// has another number of arguments (6), or a sort that does not fit (7); then too many objects (14, with the limit
+/// objects). After a refusal nothing is changed; after want of memory a front of a statement without a fault is there.
+pub fn declare(statement: &Statement<'_>, file: u32, table: &mut Table) -> Result<(), Fault>
+    ensures declared { (left : Items Declared) → IsTable table.old left →
+        OnOk result (Declares file left (plain_statement statement.now) table.new) }
+    ensures refused { (left : Items Declared) → IsTable table.old left →
+        IfErr result (HasRefused file left (plain_statement statement.now) table.old table.new) }
+    ensures unchanged { IfErr result (IsUnchangedBy table.old table.new) }
+{
+    let alloc = table.alloc;
+    enter(alloc, statement, file, &mut table.register)
 }

@@ -2,8 +2,8 @@
 use Rattle.std.proofs.Common.{◌≡◌, ◌≢◌, ◌∙◌, ℕ, List, [], ◌∷◌, ◌++◌, refl, sym, subst, ap, append_assoc, get_or}
 use Rattle.std.specs.Prelude.{decimal}
 use Rattle.std.proofs.lemmas.Bool.{eq-eqb, false≢true}
-use Rattle.cc_check.specs.Reading.{IsNumberAt}
-use Rattle.cc_check.proofs.Numbers.{one_number}
+use Rattle.cc_log.specs.Fronts.{IsNumberAt}
+use Rattle.cc_log.proofs.Numbers.{one_number}
 use Rattle.cc_sure.specs.declared.check.AtomHeading.{AtomHeading}
 use Rattle.cc_sure.specs.SureLogs.{IsAtomHeading}
 use Rattle.cc_sure.specs.SureParts.{HasNoPart, IsLastPart, IsPart}

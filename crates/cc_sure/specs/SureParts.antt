@@ -1,7 +1,7 @@
 -- The parts of a heading, and what the atoms of a log are of.
 use Rattle.std.specs.Prelude.{◌≡◌, ℕ, ◌<◌, ◌≤◌, List, [], ◌∷◌, slice_get, Some}
 use Rattle.cc_arena.specs.declared.ground_laws.GroundLaw.{GroundLaw}
-use Rattle.cc_check.specs.Reading.{IsNumberAt}
+use Rattle.cc_log.specs.Fronts.{IsNumberAt}
 use Rattle.cc_defs.specs.Description.{Description}
 use Rattle.cc_defs.specs.GroundLaws.{PlainGroundQuery, StandsForQuery}
 use Rattle.cc_defs.specs.Limits.{most_steps}

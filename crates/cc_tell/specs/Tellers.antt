@@ -1,6 +1,6 @@
 -- What a teller keeps, and which lines it can write.
 use Rattle.std.specs.Prelude.{◌≡◌, ℕ, ◌≤◌, Bool, List, []}
-use Rattle.cc_check.specs.Entries.{HasShortLists, NamesBefore}
+use Rattle.cc_log.specs.Entries.{HasShortLists, NamesBefore}
 use Rattle.cc_defs.specs.declared.event.Event.{Event}
 use Rattle.cc_defs.specs.declared.event.Event.TheVariants as events
 use Rattle.cc_defs.specs.declared.event.Told.{Told}

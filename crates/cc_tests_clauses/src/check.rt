@@ -6,11 +6,12 @@ ghost use Rattle.cc_form.specs.Queries.{IsQueryAt};
 ghost use Rattle.cc_theory.specs.Theories.{AreLawsFor};
 
 use cc_arena::{GroundQuery, Laws};
-use cc_check::{CheckFault, Finding, Section, Sections, Verdict, check, find, laws, put_line};
+use cc_check::{CheckFault, Finding, Section, Sections, Verdict, check, find, laws};
 use cc_defs::{
     Cause, EndWord, Fault, List, Lit, Lits, LogLine, Nums, OutOfMemory, Row, Sig, Version,
 };
 use cc_form::{Form, clauses};
+use cc_log::put_line;
 use cc_theory::Theory;
 use std::alloc::Global;
 use std::test::Fail;
@@ -215,8 +216,8 @@ fn lines_behind_an_end_are_found(rt: HostRuntime) {
 
 #[test]
 fn laws_are_called(_rt: HostRuntime) {
-    laws::lines_are_unique();
-    laws::logs_tell_their_lines();
+    cc_log::laws::lines_are_unique();
+    cc_log::laws::logs_tell_their_lines();
     laws::misreads_are_verdicts();
     laws::sections_give_verdicts();
 }

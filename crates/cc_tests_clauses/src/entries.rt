@@ -1,10 +1,11 @@
 //! A line of version 2 of a log, in bytes both ways.
 ghost use Rattle.std.specs.Prelude.{IfOk};
 ghost use Rattle.cc_defs.specs.LogTexts.{IsFormed};
-ghost use Rattle.cc_check.specs.Entries.{HasShortLists, NamesBefore};
+ghost use Rattle.cc_log.specs.Entries.{HasShortLists, NamesBefore};
 
-use cc_check::{Kind, LineParts, put_binary, read_entry};
+use cc_check::{Kind, LineParts, read_entry};
 use cc_defs::{Lits, LogLine, Nums, OutOfMemory};
+use cc_log::put_binary;
 use std::alloc::Global;
 use std::test::Fail;
 

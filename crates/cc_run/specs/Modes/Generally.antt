@@ -1,7 +1,7 @@
 -- General mode: the first histories of a query by the definition of a model itself, where heads may be of any form.
 use Rattle.std.specs.Prelude.{◌≡◌, ◌⊎◌, ℕ, List, [], length, Option, Some, None, IsNone, IsSome, is_some}
 use Rattle.std.specs.Option.{option_or}
-use Rattle.cc_asked.specs.Descriptions.{wide_description_of}
+use Rattle.cc_list.specs.Descriptions.{wide_description_of}
 use Rattle.cc_check.specs.Silent.{IsSilentVerdict}
 use Rattle.cc_check.specs.declared.silent.SilentVerdict.TheVariants as verdicts
 use Rattle.cc_defs.specs.declared.refusal.Refusal.{Refusal}

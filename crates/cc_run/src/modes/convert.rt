@@ -1,7 +1,7 @@
 //! Convert mode: a log that words name is judged, and where it is accepted, written in its other version.
 ghost use Rattle.std.specs.Prelude.{◌≡◌, ◌<◌, ◌≤◌, List, [], ◌∷◌, true, IfOk, IfSome, Some, length};
 ghost use Rattle.cc_arena.specs.GroundViews.{plain_ground_query};
-ghost use Rattle.cc_asked.specs.Descriptions.{IsDescriptionOf};
+ghost use Rattle.cc_list.specs.Descriptions.{IsDescriptionOf};
 ghost use Rattle.cc_convert.specs.Laws.{SaysLines};
 ghost use Rattle.cc_defs.specs.declared.event.Event.TheVariants as events;
 ghost use Rattle.cc_defs.specs.declared.log.LogLine.{LogLine as Line};
@@ -31,7 +31,7 @@ ghost use Rattle.cc_words.specs.Views.{plain_request};
 ghost use Rattle.cc_words.specs.declared.asked.Asked.TheVariants as requests;
 
 use crate::modes::check::tell_verdict;
-use cc_check::laws::other_versions_are_judged_alike;
+use cc_log::laws::other_versions_are_judged_alike;
 use cc_convert::laws::accepted_logs_say_lines;
 use cc_convert::{behind_header, said_line, version_of};
 use cc_defs::{Fault, LimitAt, LogLine, LogVerdict, OutOfMemory, Refusal, Version};

@@ -1,7 +1,7 @@
 //! Export mode: the clause list of a query at a horizon, as a text of clauses.
 ghost use Rattle.std.specs.Prelude.{◌≡◌, ◌≤◌, [], false, flat_map, IfErr, IfOk, IfSome, map, None, OnOk, Some};
 ghost use Rattle.cc_arena.specs.GroundViews.{plain_ground_query};
-ghost use Rattle.cc_asked.specs.Descriptions.{IsDescriptionOf};
+ghost use Rattle.cc_list.specs.Descriptions.{IsDescriptionOf};
 ghost use Rattle.cc_defs.specs.Description.{Description};
 ghost use Rattle.cc_defs.specs.Limits.{most_steps};
 ghost use Rattle.cc_defs.specs.Refusals.{IsRefusedBy};
@@ -26,13 +26,12 @@ ghost use Rattle.cc_words.specs.declared.asked.Asked.TheVariants as requests;
 
 use bumpalo::Bump;
 use cc_arena::{GroundQuery, Terms};
-use cc_asked::{laws_of, query_of};
 use cc_defs::{Fault, Query, Refusal};
 use cc_describe::Described;
 use cc_dimacs::{export_heading, export_line};
 use cc_form::Form;
 use cc_laws::query_steps;
-use cc_list::query_named;
+use cc_list::{laws_of, query_named, query_of};
 use cc_ports::{Desk, To};
 use cc_query::form_at;
 use cc_tell::{Status, Stop, file_named, give, give_lines, refuse};

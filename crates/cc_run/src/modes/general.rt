@@ -1,6 +1,6 @@
 //! General mode: the first histories of a query by the definition of a model itself, where heads may be of any form.
 ghost use Rattle.std.specs.Prelude.{◌≡◌, ◌<◌, ◌≤◌, [], IfOk, IfSome, IsNone, Some, is_some};
-ghost use Rattle.cc_asked.specs.Descriptions.{IsWideDescriptionOf};
+ghost use Rattle.cc_list.specs.Descriptions.{IsWideDescriptionOf};
 ghost use Rattle.cc_defs.specs.Resolved.{Query};
 ghost use Rattle.cc_describe.specs.declared.heads.Heads.TheVariants as heads;
 ghost use Rattle.cc_describe.specs.Describing.{AsksFormulas, Describes, HasWideForms, SaysAll};

@@ -1,6 +1,6 @@
 //! Make mode: all histories of a made description, summed up.
 ghost use Rattle.std.specs.Prelude.{◌≡◌, ◌≤◌, [], None, false, IfSome};
-ghost use Rattle.cc_asked.specs.Descriptions.{IsDescriptionOf};
+ghost use Rattle.cc_list.specs.Descriptions.{IsDescriptionOf};
 ghost use Rattle.cc_defs.specs.Description.{Description};
 ghost use Rattle.cc_defs.specs.Resolved.{Query};
 ghost use Rattle.cc_run.specs.Modes.Making.{making_promise};

@@ -1,6 +1,6 @@
 //! Why mode: a cause of each value of one history.
 ghost use Rattle.std.specs.Prelude.{◌≡◌, ◌≤◌, [], false, IfOk, IfSome};
-ghost use Rattle.cc_asked.specs.Descriptions.{IsDescriptionOf};
+ghost use Rattle.cc_list.specs.Descriptions.{IsDescriptionOf};
 ghost use Rattle.cc_defs.specs.Description.{Description, sizes_at};
 ghost use Rattle.cc_defs.specs.Limits.{most_steps};
 ghost use Rattle.cc_defs.specs.Paths.{IsPath};

@@ -1,6 +1,6 @@
 use Rattle.std.proofs.Common.{arith, refl}
 use Rattle.std.proofs.lemmas.Bool.{false≢true}
-use Rattle.cc_check.proofs.NumberBytes.{within_large, within_none, within_out, within_small}
+use Rattle.cc_log.proofs.NumberBytes.{within_large, within_none, within_out, within_small}
 use Rattle.cc_check.proofs.entry.+number_within.Goals as goal
 
 pub returns-in_default-number_within : goal.returns-in_default-number_within

@@ -1,9 +1,9 @@
 use Rattle.std.proofs.Common.{◌≡◌, ℕ, [], arith, refl, subst}
 use Rattle.cc_defs.specs.LogBytes.{literal_bytes}
 use Rattle.cc_defs.specs.LogTexts.{IsShortLiteral}
-use Rattle.cc_check.specs.Entries.{AreLiteralsIn}
-use Rattle.cc_check.proofs.NumberBytes.{one_literal_in}
-use Rattle.cc_check.proofs.ListBytes.{no_more, one_more_in}
+use Rattle.cc_log.specs.Entries.{AreLiteralsIn}
+use Rattle.cc_log.proofs.NumberBytes.{one_literal_in}
+use Rattle.cc_log.proofs.ListBytes.{no_more, one_more_in}
 use Rattle.cc_check.proofs.Taken.{literals_there}
 use Rattle.cc_check.proofs.entry.behind_literals.Goals as goal
 

@@ -1,8 +1,8 @@
 use Rattle.std.proofs.Common.{◌≡◌, ℕ, [], arith, refl, subst}
 use Rattle.cc_defs.specs.LogBytes.{IsNumber, number_bytes}
-use Rattle.cc_check.specs.Entries.{AreNumbersIn}
-use Rattle.cc_check.proofs.NumberBytes.{one_number_in}
-use Rattle.cc_check.proofs.ListBytes.{no_more, one_more_in}
+use Rattle.cc_log.specs.Entries.{AreNumbersIn}
+use Rattle.cc_log.proofs.NumberBytes.{one_number_in}
+use Rattle.cc_log.proofs.ListBytes.{no_more, one_more_in}
 use Rattle.cc_check.proofs.Taken.{numbers_there}
 use Rattle.cc_check.proofs.entry.behind_numbers.Goals as goal
 

@@ -1,5 +1,5 @@
 use Rattle.std.proofs.Common.{ℕ, List}
-use Rattle.cc_check.specs.Entries.{AreNumbersIn}
+use Rattle.cc_log.specs.Entries.{AreNumbersIn}
 use Rattle.cc_check.proofs.entry.behind_numbers.Given as goal
 
 abbrev pub invariant-loop : goal.invariant-loop

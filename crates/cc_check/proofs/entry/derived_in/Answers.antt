@@ -1,6 +1,6 @@
 use Rattle.cc_defs.specs.declared.log.Version.TheVariants.{Second}
 use Rattle.cc_check.specs.Readers.{literals_in, numbers_in}
-use Rattle.cc_check.proofs.EntryBytes.{no_clause, no_pairs, no_chain, derived_read}
+use Rattle.cc_check.proofs.EntryRead.{no_clause, no_pairs, no_chain, derived_read}
 use Rattle.cc_check.proofs.entry.derived_in.Goals as goal
 
 pub returns-in_default-behind_literals : goal.returns-in_default-behind_literals

@@ -1,5 +1,5 @@
 use Rattle.std.proofs.Common.{inl, inr}
-use Rattle.cc_check.proofs.EntryBytes.{heading_read, no_heading}
+use Rattle.cc_check.proofs.EntryRead.{heading_read, no_heading}
 use Rattle.cc_check.proofs.entry.heading_in.Goals.{else-not-conditions-via-then-not-conditions+else-kind-ne1, else-not-conditions-via-else-not-conditions}
 use Rattle.cc_check.proofs.entry.heading_in.Goals as goal
 

@@ -1,4 +1,4 @@
-use Rattle.cc_check.proofs.NumberBytes.{literal_within}
+use Rattle.cc_log.proofs.NumberBytes.{literal_within}
 use Rattle.cc_check.proofs.entry.literal_in.Goals as goal
 
 pub returns : goal.returns

@@ -1,9 +1,9 @@
 use Rattle.std.proofs.Common.{subst, sym}
 use Rattle.cc_check.specs.declared.line.Kind.{Kind}
-use Rattle.cc_check.specs.Entries.{IsEntryRead}
+use Rattle.cc_check.specs.Reading.{IsEntryRead}
 use Rattle.cc_check.specs.Readers.{literals_of, numbers_of}
-use Rattle.cc_check.proofs.Signed.{front}
-use Rattle.cc_check.proofs.EntryBytes.{read_behind, no_other}
+use Rattle.cc_log.proofs.Signed.{front}
+use Rattle.cc_check.proofs.EntryRead.{read_behind, no_other}
 use Rattle.cc_check.proofs.entry.read_entry.Goals as goal
 
 pub returns-then-kind-eq3 : goal.returns-then-kind-eq3

@@ -1,6 +1,6 @@
 use Rattle.cc_defs.specs.declared.log.Version.TheVariants.{First}
 use Rattle.cc_check.specs.Readers.{numbers_in}
-use Rattle.cc_check.proofs.Lines.{no_block, block_line}
+use Rattle.cc_log.proofs.Lines.{no_block, block_line}
 use Rattle.cc_check.proofs.line.block_of.Goals as goal
 
 pub returns-in_default : goal.returns-in_default

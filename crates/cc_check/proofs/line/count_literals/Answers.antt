@@ -1,7 +1,7 @@
 use Rattle.std.proofs.Common.{inl, inr}
 use Rattle.cc_check.proofs.Counted.{literals_counted_done, literals_counted_more}
-use Rattle.cc_check.proofs.Rows.{literals_fail, literals_shorter, literals_stop}
-use Rattle.cc_check.proofs.Signed.{front}
+use Rattle.cc_log.proofs.Rows.{literals_fail, literals_shorter, literals_stop}
+use Rattle.cc_log.proofs.Signed.{front}
 use Rattle.cc_check.proofs.line.count_literals.Goals as goal
 
 pub returns-then-byte-ne32 : goal.returns-then-byte-ne32

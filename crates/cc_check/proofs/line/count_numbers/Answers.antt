@@ -1,8 +1,8 @@
 use Rattle.std.proofs.Common.{inl, inr, refl}
 use Rattle.std.proofs.lemmas.Bool.{false≢true}
 use Rattle.cc_check.proofs.Counted.{counted_done, counted_more}
-use Rattle.cc_check.proofs.Rows.{numbers_fail, numbers_stop, numbers_shorter}
-use Rattle.cc_check.proofs.Signed.{front}
+use Rattle.cc_log.proofs.Rows.{numbers_fail, numbers_stop, numbers_shorter}
+use Rattle.cc_log.proofs.Signed.{front}
 use Rattle.cc_check.proofs.line.count_numbers.Goals as goal
 use Rattle.cc_check.proofs.line.count_numbers.Goals.{in_default, in-len1-up+then-byte-ne32}
 

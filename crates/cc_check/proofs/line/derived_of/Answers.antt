@@ -1,6 +1,6 @@
 use Rattle.cc_defs.specs.declared.log.Version.TheVariants.{First}
 use Rattle.cc_check.specs.Readers.{literals_in, numbers_in}
-use Rattle.cc_check.proofs.Lines.{derived_line, no_chain_derived, no_literals_derived}
+use Rattle.cc_log.proofs.Lines.{derived_line, no_chain_derived, no_literals_derived}
 use Rattle.cc_check.proofs.line.derived_of.Goals as goal
 
 pub returns-in_default : goal.returns-in_default

@@ -1,5 +1,5 @@
 use Rattle.std.proofs.Common.{inl, inr}
-use Rattle.cc_check.proofs.Spelled.{heading_line}
+use Rattle.cc_log.proofs.Spelled.{heading_line}
 use Rattle.cc_check.proofs.line.heading_of.Goals as goal
 use Rattle.cc_check.proofs.line.heading_of.Goals.{else-not-conditions-via-then-not-conditions+else-letter-ne104, else-not-conditions-via-else-not-conditions}
 

@@ -1,5 +1,5 @@
 use Rattle.std.proofs.lemmas.Bool.{false≢true}
-use Rattle.cc_check.proofs.Lines.{last_by}
+use Rattle.cc_log.proofs.Lines.{last_by}
 use Rattle.cc_check.proofs.line.last_number.Goals as goal
 
 pub returns-then-not-is_line_feed : goal.returns-then-not-is_line_feed

@@ -1,5 +1,5 @@
 use Rattle.std.proofs.Common.{arith}
-use Rattle.cc_check.proofs.Numbers.{one_number}
+use Rattle.cc_log.proofs.Numbers.{one_number}
 use Rattle.cc_check.proofs.number.negative_at.Goals as goal
 
 pub returns-then-variable-eq0 : goal.returns-then-variable-eq0

@@ -1,5 +1,5 @@
 use Rattle.std.proofs.Common.{inl, inr, sym}
-use Rattle.cc_check.proofs.Numbers.{digit_begun, digit_read, nothing_there, no_digit_there, stops, too_long}
+use Rattle.cc_log.proofs.Numbers.{digit_begun, digit_read, nothing_there, no_digit_there, stops, too_long}
 use Rattle.cc_check.proofs.number.number_at.Goals as goal
 use Rattle.cc_check.proofs.number.number_at.Goals.{in_default-rest, in-len1-up-rest+then-not-is_digit_byte-2, then-number-eq0-via-then-number-eq0, then-number-eq0-via-else-number-eq0+then-number-gt99999999}
 

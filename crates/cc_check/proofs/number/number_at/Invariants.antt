@@ -1,5 +1,5 @@
 use Rattle.std.proofs.Common.{◌≡◌, ◌≤◌, length}
-use Rattle.cc_check.specs.Readers.{number_from, number_of}
+use Rattle.cc_log.specs.Fronts.{number_from, number_of}
 use Rattle.cc_check.proofs.number.number_at.Given as goal
 
 -- the number so far, with the digits that are left, is the whole number

@@ -1,5 +1,5 @@
 use Rattle.std.proofs.Common.{refl, inr}
-use Rattle.cc_check.proofs.Signed.{none_at_all, negative_result, positive_signed, no_positive, front}
+use Rattle.cc_log.proofs.Signed.{none_at_all, negative_result, positive_signed, no_positive, front}
 use Rattle.cc_check.proofs.number.signed_at.Goals as goal
 
 pub returns-in_default : goal.returns-in_default

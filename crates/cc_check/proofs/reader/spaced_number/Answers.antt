@@ -1,6 +1,6 @@
 use Rattle.std.proofs.Common.{ap, ◌∙◌}
 use Rattle.std.proofs.lemmas.List.{take_rest}
-use Rattle.cc_check.specs.Readers.{number_of}
+use Rattle.cc_log.specs.Fronts.{number_of}
 use Rattle.cc_check.proofs.Taken.{number_plain}
 use Rattle.cc_check.proofs.reader.spaced_number.Goals as goal
 

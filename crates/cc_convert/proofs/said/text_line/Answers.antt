@@ -1,5 +1,5 @@
 use Rattle.std.proofs.Common.{◌∙◌}
-use Rattle.cc_check.proofs.Lines.{one_line}
+use Rattle.cc_log.proofs.Lines.{one_line}
 use Rattle.cc_convert.proofs.Reading.{text_holdable, text_result}
 use Rattle.cc_check.specs.Readers.{literals_of, numbers_of}
 use Rattle.cc_convert.proofs.said.text_line.Goals as goal

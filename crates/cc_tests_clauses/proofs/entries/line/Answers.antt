@@ -4,7 +4,7 @@ use Rattle.cc_defs.specs.declared.log.LogLine.{LogLine}
 use Rattle.cc_defs.specs.declared.log.LogLine.TheVariants as lines
 use Rattle.cc_defs.specs.Clauses.{Literal}
 use Rattle.cc_defs.specs.LogTexts.{IsFormed, IsShort}
-use Rattle.cc_check.specs.Entries.{AreBefore, HasShortLists, NamesBefore}
+use Rattle.cc_log.specs.Entries.{AreBefore, HasShortLists, NamesBefore}
 use Rattle.cc_tests_clauses.proofs.entries.line.Goals as goal
 
 abbrev links : List ℕ

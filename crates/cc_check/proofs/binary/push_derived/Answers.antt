@@ -1,7 +1,0 @@
-use Rattle.std.proofs.Common.{arith}
-use Rattle.std.proofs.lemmas.Grind.{common_steps}
-use Rattle.cc_check.proofs.WrittenBytes.{derived_bytes}
-use Rattle.cc_check.proofs.binary.push_derived.Goals as goal
-
-pub returns : goal.returns
-returns c = grind (arith, common_steps, derived_bytes)

@@ -1,0 +1,16 @@
+pub mod Numbers
+pub mod Spelled
+pub mod Signed
+pub mod Rows
+pub mod Lines
+pub mod Telling
+pub mod NumberBytes
+pub mod ListBytes
+pub mod Behind
+pub mod WrittenBytes
+pub mod EntryBytes
+pub mod ConvertingLines
+pub mod ConvertingBytes
+pub mod ConvertingParts
+pub mod Converting
+pub mod ConvertingNames
