@@ -15,7 +15,7 @@ use Rattle.clap.specs.Walk.{Held, Row, Rule, Step, Text, Waiting, Walk, action_o
 use Rattle.clap.specs.declared.builder.action.ArgAction.{ArgAction}
 use Rattle.clap.specs.declared.builder.action.ArgAction.TheVariants as action
 use Rattle.clap.specs.declared.error.kind.ErrorKind.{ErrorKind}
-use Rattle.clap.specs.declared.error.kind.ErrorKind.TheVariants.{InvalidValue, TooFewValues, TooManyValues, WrongNumberOfValues}
+use Rattle.clap.specs.declared.error.kind.ErrorKind.TheVariants.{InvalidSubcommand, InvalidValue, TooFewValues, TooManyValues, UnknownArgument, WrongNumberOfValues}
 use Rattle.clap.proofs.FaultLemmas.{leaf_fault}
 use Rattle.clap.proofs.TakesLemmas.{leaf_takes}
 use Rattle.cc_words.specs.Readings.{command}
@@ -167,15 +167,20 @@ other_taken waiting word h = go waiting
     go (option id) = flags
     go positional = flags
 
-step_taken : (position : ℕ) (h : Held) (step : Step) → Passes (step_fault shape position h step) (step_passes shape position h step)
-step_taken position h for_positional e = go (arg_by_index shape.rules position) e
-  where
-    go : (o : Option Rule) → Passes (option_map_or (λ a. positional_fault shape.rules false a h) o (stray_fault shape)) (option_map_or (λ a. positional_passes shape.rules false a h) o false)
-    go None e = absurd cc
-    go (Some a) e = unless (is_pending a h.pending && takes_several a) (settle_fault shape.rules false h) (settle_passes shape.rules false h) (settle_taken shape.rules false h) e
-step_taken position h (next waiting) e = refl
-step_taken position h (trailing p) e = refl
-step_taken position h (subcommand name) e = refl
+module _ (s : Shape) where
+  stray_taken : (leaf : Bool) → Passes (if leaf then UnknownArgument ∷ [] else UnknownArgument ∷ InvalidSubcommand ∷ []) false
+  stray_taken true e = absurd cc
+  stray_taken false e = absurd cc
+
+  step_taken : (position : ℕ) (h : Held) (step : Step) → Passes (step_fault s position h step) (step_passes s position h step)
+  step_taken position h for_positional e = go (arg_by_index s.rules position) e
+    where
+      go : (o : Option Rule) → Passes (option_map_or (λ a. positional_fault s.rules s.args_override_self a h) o (stray_fault s)) (option_map_or (λ a. positional_passes s.rules s.args_override_self a h) o false)
+      go None e = stray_taken s.is_leaf e
+      go (Some a) e = unless (is_pending a h.pending && takes_several a) (settle_fault s.rules s.args_override_self h) (settle_passes s.rules s.args_override_self h) (settle_taken s.rules s.args_override_self h) e
+  step_taken position h (next waiting) e = refl
+  step_taken position h (trailing p) e = refl
+  step_taken position h (subcommand name) e = refl
 
 turn_taken : (w : Walk) (word : Text) → Passes (turn_fault shape [] w word) (turn_passes shape [] w word)
 turn_taken w word =
@@ -186,7 +191,7 @@ turn_taken w word =
     (word_passes shape [] w.is_trailing w.waiting word w.held) (step_passes shape w.position met.0 met.1)
     (unless w.is_trailing (other_fault shape (subcommand_met [] w.waiting word) word w.held) (other_passes shape (subcommand_met [] w.waiting word) word w.held)
     (other_taken w.waiting word w.held))
-    (step_taken w.position met.0 met.1))
+    (step_taken shape w.position met.0 met.1))
 
 walk_taken : (w : Walk) (words : List Text) → Passes (walk_fault shape [] w words) (walk_passes shape [] w words)
 unfolding walk_fault walk_passes

@@ -2,7 +2,7 @@
 ghost use Rattle.std.specs.Prelude.{◌≡◌};
 ghost use Rattle.std.specs.List.{list_all, list_any};
 ghost use Rattle.cc_words.specs.Requests as requests;
-ghost use Rattle.cc_words.specs.Requests.{asked_in, asked_of, budget_of, count_of, form_of, mode_of, to_be_sure, to_check, to_check_models, to_check_general, to_check_sure, to_convert, to_explain, to_export, to_list, to_list_generally, to_make, to_model, valued};
+ghost use Rattle.cc_words.specs.Requests.{asked_in, asked_of, budget_of, count_of, form_of, mode_of, number_from_zero, number_up_to, provided, to_be_sure, to_check, to_check_models, to_check_general, to_check_sure, to_convert, to_explain, to_export, to_list, to_list_generally, to_make, to_model, valued};
 ghost use Rattle.cc_words.specs.Views.{plain_asked, plain_given};
 
 use crate::asked::{
@@ -44,19 +44,20 @@ impl<'a> Given<'a> {
     fn has(&self, item: Item) -> bool
         ensures { result ≡ requests.has (plain_given self.now) item }
     {
-        match item {
-            Item::Query => self.query.is_some(),
-            Item::Count => self.count.is_some(),
-            Item::Budget => self.budget.is_some(),
-            Item::After => self.after.is_some(),
-            Item::Log => self.log.is_some(),
-            Item::Form => self.form.is_some(),
-            Item::To => self.to.is_some(),
-            Item::Key => self.key.is_some(),
-            Item::Horizon => self.horizon.is_some(),
-            Item::Size => self.size.is_some(),
-            Item::File => self.file.is_some(),
-        }
+        let value = match item {
+            Item::Query => self.query,
+            Item::Count => self.count,
+            Item::Budget => self.budget,
+            Item::After => self.after,
+            Item::Log => self.log,
+            Item::Form => self.form,
+            Item::To => self.to,
+            Item::Key => self.key,
+            Item::Horizon => self.horizon,
+            Item::Size => self.size,
+            Item::File => self.file,
+        };
+        value.is_some()
     }
 
     fn has_all(&self, items: &[Item]) -> bool
@@ -101,6 +102,18 @@ impl<'a> Given<'a> {
         Some(budget.unwrap_or(200_000))
     }
 
+    fn size(&self) -> Option<u32>
+        ensures { result ≡ provided (plain_given self.now).size (number_up_to 100) }
+    {
+        up_to(100, self.size?)
+    }
+
+    fn horizon(&self) -> Option<u32>
+        ensures { result ≡ provided (plain_given self.now).horizon number_from_zero }
+    {
+        from_zero(self.horizon?)
+    }
+
     fn form(&self) -> Option<Version>
         ensures { result ≡ form_of (plain_given self.now) }
     {
@@ -111,10 +124,14 @@ impl<'a> Given<'a> {
     fn to_list(&self) -> Option<Asked<'a>>
         ensures { plain_asked result ≡ to_list (plain_given self.now) }
     {
-        let file = self.file?;
-        let count = self.count()?;
-        let budget = self.budget()?;
-        let form = self.form()?;
+        let (Some(file), Some(count), Some(budget), Some(form)) = (
+            self.file,
+            self.count(),
+            self.budget(),
+            self.form(),
+        ) else {
+            return None;
+        };
         Some(Asked::List(ListAsked {
             file,
             query: self.query,
@@ -129,8 +146,9 @@ impl<'a> Given<'a> {
     fn to_check(&self) -> Option<Asked<'a>>
         ensures { plain_asked result ≡ to_check (plain_given self.now) }
     {
-        let file = self.file?;
-        let log = self.log?;
+        let (Some(file), Some(log)) = (self.file, self.log) else {
+            return None;
+        };
         Some(Asked::Check(CheckAsked {
             file,
             query: self.query,
@@ -142,25 +160,27 @@ impl<'a> Given<'a> {
     fn to_make(&self) -> Option<Asked<'a>>
         ensures { plain_asked result ≡ to_make (plain_given self.now) }
     {
-        let size = up_to(100, self.size?)?;
-        let budget = self.budget()?;
+        let (Some(size), Some(budget)) = (self.size(), self.budget()) else {
+            return None;
+        };
         Some(Asked::Make { size, budget })
     }
 
     fn to_explain(&self) -> Option<Asked<'a>>
         ensures { plain_asked result ≡ to_explain (plain_given self.now) }
     {
-        let file = self.file?;
-        let key = self.key?;
+        let (Some(file), Some(key)) = (self.file, self.key) else {
+            return None;
+        };
         Some(Asked::Explain(ExplainAsked { file, key }))
     }
 
     fn to_convert(&self) -> Option<Asked<'a>>
         ensures { plain_asked result ≡ to_convert (plain_given self.now) }
     {
-        let file = self.file?;
-        let log = self.log?;
-        let to = self.to?;
+        let (Some(file), Some(log), Some(to)) = (self.file, self.log, self.to) else {
+            return None;
+        };
         Some(Asked::Convert(ConvertAsked {
             file,
             query: self.query,
@@ -173,8 +193,9 @@ impl<'a> Given<'a> {
     fn to_export(&self) -> Option<Asked<'a>>
         ensures { plain_asked result ≡ to_export (plain_given self.now) }
     {
-        let file = self.file?;
-        let horizon = from_zero(self.horizon?)?;
+        let (Some(file), Some(horizon)) = (self.file, self.horizon()) else {
+            return None;
+        };
         Some(Asked::Export(ExportAsked {
             file,
             query: self.query,
@@ -185,10 +206,14 @@ impl<'a> Given<'a> {
     fn to_model(&self) -> Option<Asked<'a>>
         ensures { plain_asked result ≡ to_model (plain_given self.now) }
     {
-        let file = self.file?;
-        let count = self.count()?;
-        let budget = self.budget()?;
-        let form = self.form()?;
+        let (Some(file), Some(count), Some(budget), Some(form)) = (
+            self.file,
+            self.count(),
+            self.budget(),
+            self.form(),
+        ) else {
+            return None;
+        };
         Some(Asked::Models(ModelsAsked {
             file,
             count,
@@ -201,16 +226,18 @@ impl<'a> Given<'a> {
     fn to_check_models(&self) -> Option<Asked<'a>>
         ensures { plain_asked result ≡ to_check_models (plain_given self.now) }
     {
-        let file = self.file?;
-        let log = self.log?;
+        let (Some(file), Some(log)) = (self.file, self.log) else {
+            return None;
+        };
         Some(Asked::CheckModels(CheckModelsAsked { file, log }))
     }
 
     fn to_be_sure(&self) -> Option<Asked<'a>>
         ensures { plain_asked result ≡ to_be_sure (plain_given self.now) }
     {
-        let file = self.file?;
-        let budget = self.budget()?;
+        let (Some(file), Some(budget)) = (self.file, self.budget()) else {
+            return None;
+        };
         Some(Asked::Sure(SureAsked {
             file,
             query: self.query,
@@ -222,8 +249,9 @@ impl<'a> Given<'a> {
     fn to_check_sure(&self) -> Option<Asked<'a>>
         ensures { plain_asked result ≡ to_check_sure (plain_given self.now) }
     {
-        let file = self.file?;
-        let log = self.log?;
+        let (Some(file), Some(log)) = (self.file, self.log) else {
+            return None;
+        };
         Some(Asked::CheckSure(CheckSureAsked {
             file,
             query: self.query,
@@ -234,9 +262,10 @@ impl<'a> Given<'a> {
     fn to_list_generally(&self) -> Option<Asked<'a>>
         ensures { plain_asked result ≡ to_list_generally (plain_given self.now) }
     {
-        let file = self.file?;
-        let count = self.count()?;
-        let budget = self.budget()?;
+        let (Some(file), Some(count), Some(budget)) = (self.file, self.count(), self.budget())
+        else {
+            return None;
+        };
         Some(Asked::General(GeneralAsked {
             file,
             query: self.query,
@@ -249,8 +278,9 @@ impl<'a> Given<'a> {
     fn to_check_general(&self) -> Option<Asked<'a>>
         ensures { plain_asked result ≡ to_check_general (plain_given self.now) }
     {
-        let file = self.file?;
-        let log = self.log?;
+        let (Some(file), Some(log)) = (self.file, self.log) else {
+            return None;
+        };
         Some(Asked::CheckGeneral(CheckGeneralAsked {
             file,
             query: self.query,

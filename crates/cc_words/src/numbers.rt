@@ -44,12 +44,10 @@ pub(crate) fn from_zero(text: &str) -> Option<u32>
 fn version(text: &str) -> Option<Version>
     ensures { result ≡ version_named text.now }
 {
-    if text == "1" {
-        Some(Version::First)
-    } else if text == "2" {
-        Some(Version::Second)
-    } else {
-        None
+    match text {
+        "1" => Some(Version::First),
+        "2" => Some(Version::Second),
+        _ => None,
     }
 }
 

@@ -7,20 +7,9 @@ ghost use Rattle.cc_words.specs.Words.{IsPlain, Pair, Text, given_of};
 
 use crate::asked::Asked;
 use crate::laws::plain_words_read_as_they_stand;
-use crate::parse::given;
+use crate::parse::asked_by;
 use cc_defs::OutOfMemory;
 use std::alloc::Global;
-
-/// What the words ask for; `None` where they have no reading.
-fn asked_by<'a>(alloc: Global, words: &'a [String]) -> Result<Option<Asked<'a>>, OutOfMemory>
-    ensures { IfOk result (λ asked.
-        plain_asked asked ≡ option_and_then asked_of (reading (map string_bytes words.entry.now))) }
-{
-    match given(alloc, words)? {
-        Some(given) => Ok(given.asked()),
-        None => Ok(None),
-    }
-}
 
 /// What the words ask for, without the program's name; `None` where they have no reading.
 pub fn read<'a>(alloc: Global, words: &'a [String]) -> Result<Option<Asked<'a>>, OutOfMemory>
