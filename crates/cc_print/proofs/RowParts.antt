@@ -1,5 +1,5 @@
 -- The constants of a signature between two numbers, and the parts of a row that belong to them.
-use Rattle.std.proofs.Common.{◌≡◌, ◌∙◌, ℕ, zero, suc, ◌+◌, ◌-◌, ◌*◌, ◌<◌, ◌≤◌, List, [], ◌∷◌, ◌++◌, length, take, drop, get_or, slice_get, slice_index, Some, inl, inr, refl, sym, ap, subst, arith, append_assoc, append-nil, add-one, drop-cons, length-drop}
+use Rattle.std.proofs.Common.{◌≡◌, ◌∙◌, ℕ, zero, suc, ◌+◌, ◌-◌, ◌*◌, ◌<◌, ◌≤◌, List, [], ◌∷◌, ◌++◌, length, take, drop, get_or, slice_get, slice_index, Some, inl, inr, refl, sym, ap, ap₂, subst, codes, decimal, arith, append_assoc, append-nil, add-one, drop-cons, length-drop}
 use Rattle.std.proofs.Math.Seq.{take-length}
 use Rattle.std.proofs.lemmas.Bool.{cases_lt}
 use Rattle.std.proofs.lemmas.List.{drop_all, drop_at, length-take, take_at}
@@ -11,7 +11,7 @@ use Rattle.cc_defs.specs.Rows.{IsRow}
 use Rattle.cc_defs.specs.Signatures.{Signature, ground_constants}
 use Rattle.cc_defs.specs.Texts.{actions_text, constants_shown, history_text, shown, state_text}
 use Rattle.cc_sorts.specs.Tables.{TableView}
-use Rattle.cc_print.specs.Histories.{AreGiven, AreNamed, IsNamed, constants_between, described}
+use Rattle.cc_print.specs.Histories.{AreGiven, AreNamed, IsNamed, constants_between, described, named_by}
 
 -- ---- constants between two numbers
 
@@ -124,3 +124,30 @@ next_written d row step old first second third a b e =
     subst (λ n. third ≡ second ++ state_text d row n → third ≡ old ++ history_text d n row) (sym (add-one step)) (λ last.
     last ∙ ap (λ front. front ++ state_text d row (suc step)) (b ∙ ap (λ front. front ++ actions_text d row step) a ∙ append_assoc old (history_text d step row) (actions_text d row step))
     ∙ append_assoc old (history_text d step row ++ actions_text d row step) (state_text d row (suc step))) e
+
+-- ---- a line of constants
+
+joined : (old name line end : List ℕ) → old ++ name ++ line ++ end ≡ old ++ (name ++ line ++ end)
+joined old name line end = ap (λ front. front ++ end) (append_assoc old name line) ∙ append_assoc old (name ++ line) end
+
+module _ (table : TableView) (s : Signature) (row : List ℕ) (step place : ℕ) (at : place ≡ step * stride (described table s)) where
+  pub state_line : (fluents : ℕ) (old first second third : List ℕ) → fluents ≡ length s.fluents → first ≡ old ++ decimal step → second ≡ first ++ codes ":"
+      → third ≡ second ++ constants_shown (named_by table) (constants_between s 0 fluents) 0 (λ number. slice_index row (place + number))
+      → third ++ 10 ∷ [] ≡ old ++ state_text (described table s) row step
+  state_line fluents old first second third few one two three =
+      ap (λ text. text ++ 10 ∷ []) (three
+      ∙ ap₂ (λ (front : List ℕ) (constants : List Const). front ++ constants_shown (named_by table) constants 0 (λ number. slice_index row (place + number)))
+      (two ∙ ap (λ text. text ++ codes ":") one) (ap (constants_between s 0) few ∙ fluents_between s)
+      ∙ ap (λ place. old ++ decimal step ++ codes ":" ++ constants_shown (named_by table) s.fluents 0 (λ number. slice_index row (place + number))) at)
+      ∙ ap (λ front. front ++ constants_shown (named_by table) s.fluents 0 (λ number. slice_index row (step * stride (described table s) + number)) ++ 10 ∷ []) (append_assoc old (decimal step) (codes ":"))
+      ∙ joined old (decimal step ++ codes ":") (constants_shown (named_by table) s.fluents 0 (λ number. slice_index row (step * stride (described table s) + number))) (10 ∷ [])
+
+  pub actions_line : (fluents actions : ℕ) (old first third : List ℕ) → fluents ≡ length s.fluents → actions ≡ length s.actions → first ≡ old ++ codes "ACTIONS:"
+      → third ≡ first ++ constants_shown (named_by table) (constants_between s fluents (fluents + actions)) fluents (λ number. slice_index row (place + number))
+      → third ++ 10 ∷ [] ≡ old ++ actions_text (described table s) row step
+  actions_line fluents actions old first third few some one two =
+      ap (λ text. text ++ 10 ∷ []) (two
+      ∙ ap₂ (λ (front : List ℕ) (n : ℕ). front ++ constants_shown (named_by table) (constants_between s n (n + actions)) n (λ number. slice_index row (place + number))) one few
+      ∙ ap₂ (λ (n place : ℕ). old ++ codes "ACTIONS:" ++ constants_shown (named_by table) (constants_between s (length s.fluents) (length s.fluents + n)) (length s.fluents) (λ number. slice_index row (place + number))) some at
+      ∙ ap (λ constants. old ++ codes "ACTIONS:" ++ constants_shown (named_by table) constants (length s.fluents) (λ number. slice_index row (step * stride (described table s) + number))) (actions_between s))
+      ∙ joined old (codes "ACTIONS:") (constants_shown (named_by table) s.actions (length s.fluents) (λ number. slice_index row (step * stride (described table s) + number))) (10 ∷ [])

@@ -8,8 +8,8 @@ ghost use Rattle.cc_print.specs.Atoms as atoms;
 ghost use Rattle.cc_print.specs.Atoms.{IsAtomOf};
 ghost use Rattle.cc_print.specs.Histories.{AreNamed, IsNamed, described, named_by};
 
-use crate::histories::{object_name, push_constant};
-use crate::texts::push_count;
+use crate::histories::{push_constant, push_object};
+use crate::texts::{push_count, written};
 use cc_defs::{Const, OutOfMemory, Sig, Text};
 use cc_sorts::Table;
 use std::alloc::Global;
@@ -30,11 +30,11 @@ pub fn atom_text(
         d.objects ≡ map (λ object. object.0) (objects declarations) →
         IfOk result (λ text. text ≡ atoms.atom_text d position value) }
 {
-    written(alloc, table, sig, position, value)
+    named_text(alloc, table, sig, position, value)
 }
 
 /// The text of an atom, by the names of the table.
-fn written(
+fn named_text(
     alloc: Global,
     table: &Table,
     sig: &Sig,
@@ -47,8 +47,8 @@ fn written(
         text ≡ atoms.atom_text (described table.now sig.now) position value) }
 {
     let mut text = String::new(alloc);
-    push_atom(&mut text, table, sig, position, value)?;
-    Ok(Text::of(text))
+    let pushed = push_atom(&mut text, table, sig, position, value);
+    written(text, pushed)
 }
 
 /// Writes the step of a position, and its constant with the value of an index.
@@ -83,7 +83,6 @@ fn push_value(
         ++ atoms.value_text (named_by table.now) (Some constant.now) index) }
 {
     push_constant(text, table, constant)?;
-    text.push_str("=")?;
-    text.push_str(object_name(table, constant.domain.items()[index as usize]))?;
-    Ok(())
+    let object = constant.domain.items()[index as usize];
+    push_object(text, '=', table, object)
 }

@@ -1,5 +1,5 @@
 //! The text of a history.
-ghost use Rattle.std.specs.Prelude.{◌≡◌, ◌+◌, ◌*◌, ◌^◌, ◌<◌, ◌≤◌, ◌++◌, ◌∷◌, [], List, IfOk, OnOk, codes, flat_map, length, map, slice_get, slice_index, string_bytes};
+ghost use Rattle.std.specs.Prelude.{◌≡◌, ◌+◌, ◌*◌, ◌^◌, ◌<◌, ◌≤◌, ◌++◌, ◌∷◌, [], List, IfOk, OnOk, codes, encode_utf8, flat_map, length, map, slice_get, slice_index, string_bytes};
 ghost use Rattle.std.specs.List.{AllByRecursion};
 ghost use Rattle.cc_defs.specs.Conditions.{IsSignatureOfDescription};
 ghost use Rattle.cc_defs.specs.Declarations.{Declaration, objects};
@@ -11,7 +11,7 @@ ghost use Rattle.cc_defs.specs.Universe.{is_boolean_symbol, universe};
 ghost use Rattle.cc_sorts.specs.Tables.{IsSignatureFor, IsSignatureOf, IsTable};
 ghost use Rattle.cc_print.specs.Histories.{AreGiven, AreNamed, IsNamed, IsNamedValue, constants_between, described, named_by};
 
-use crate::texts::push_number;
+use crate::texts::{push_line_feed, push_number, written};
 use cc_defs::{Const, OutOfMemory, Sig, Text};
 use cc_sorts::Table;
 use std::alloc::Global;
@@ -38,11 +38,11 @@ pub fn history_text(
         d.objects ≡ map (λ object. object.0) (objects declarations) →
         IfOk result (λ text. text ≡ texts.history_text d horizon row.now) }
 {
-    written(alloc, table, sig, horizon, row)
+    named_text(alloc, table, sig, horizon, row)
 }
 
 /// The text of a history, by the names of the table.
-fn written(
+fn named_text(
     alloc: Global,
     table: &Table,
     sig: &Sig,
@@ -55,8 +55,8 @@ fn written(
         text ≡ texts.history_text (described table.now sig.now) horizon row.now) }
 {
     let mut text = String::with_capacity(alloc, row.len().saturating_mul(4).saturating_add(16))?;
-    push_history(&mut text, table, sig, horizon, row)?;
-    Ok(Text::of(text))
+    let pushed = push_history(&mut text, table, sig, horizon, row);
+    written(text, pushed)
 }
 
 /// Writes the states, with the actions between them.
@@ -100,8 +100,7 @@ fn push_state(
     push_number(text, step)?;
     text.push_str(":")?;
     push_constants(text, table, sig, (0, sig.fluents()), row, place)?;
-    text.push('\n')?;
-    Ok(())
+    push_line_feed(text)
 }
 
 /// Writes the line of the actions of a step, whose indexes stand behind those of the fluents.
@@ -129,8 +128,7 @@ fn push_actions(
         row,
         place,
     )?;
-    text.push('\n')?;
-    Ok(())
+    push_line_feed(text)
 }
 
 /// Writes the constants with numbers from one on, as far as another; the index of a constant stands as far behind the place
@@ -173,9 +171,7 @@ fn push_shown(
     let value = constant.domain.items()[index as usize];
     if !is_boolean(table, constant.symbol) {
         push_indented(text, table, constant)?;
-        text.push('=')?;
-        text.push_str(object_name(table, value))?;
-        Ok(())
+        push_object(text, '=', table, value)
     } else if value == 1 {
         push_indented(text, table, constant)
     } else {
@@ -216,8 +212,7 @@ fn push_arguments(text: &mut String, table: &Table, args: &[u32]) -> Result<(), 
     match args {
         [] => Ok(()),
         [first, others @ ..] => {
-            text.push('(')?;
-            text.push_str(object_name(table, *first))?;
+            push_object(text, '(', table, *first)?;
             push_other_arguments(text, table, others)?;
             text.push(')')?;
             Ok(())
@@ -232,9 +227,24 @@ fn push_other_arguments(text: &mut String, table: &Table, args: &[u32]) -> Resul
         ++ flat_map (λ name. 44 ∷ name) (map (texts.object_text (named_by table.now)) args.now)) }
 {
     for object in args {
-        text.push(',')?;
-        text.push_str(object_name(table, *object))?;
+        push_object(text, ',', table, *object)?;
     }
+    Ok(())
+}
+
+/// Writes a character, and the name of an object or `none`.
+pub(crate) fn push_object(
+    text: &mut String,
+    before: char,
+    table: &Table,
+    object: u32,
+) -> Result<(), OutOfMemory>
+    requires { IsNamedValue table.now object }
+    ensures { OnOk result (string_bytes text.new ≡ string_bytes text.old
+        ++ encode_utf8 before ++ texts.object_text (named_by table.now) object) }
+{
+    text.push(before)?;
+    text.push_str(object_name(table, object))?;
     Ok(())
 }
 
@@ -257,7 +267,7 @@ fn symbol_name<'t>(table: &'t Table, symbol: u32) -> &'t str
 }
 
 /// The name of an object, or `none`.
-pub(crate) fn object_name<'t>(table: &'t Table, object: u32) -> &'t str
+fn object_name<'t>(table: &'t Table, object: u32) -> &'t str
     requires { IsNamedValue table.now object }
     ensures { result.now ≡ texts.object_text (named_by table.now) object }
 {

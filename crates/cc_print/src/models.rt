@@ -3,7 +3,7 @@ ghost use Rattle.std.specs.Prelude.{◌≡◌, ◌≤◌, ◌∷◌, [], IfOk, O
 ghost use Rattle.cc_print.specs.Models.{model_line, model_words, models_verdict_line};
 ghost use Rattle.cc_defs.specs.declared.log.LogVerdict.TheVariants.{Accepted};
 
-use crate::texts::{push_count, push_number};
+use crate::texts::{push_line_feed, push_number, written};
 use crate::verdicts::verdict_text;
 use cc_defs::{LogVerdict, OutOfMemory, Text};
 use std::alloc::Global;
@@ -39,20 +39,25 @@ pub fn model_text(alloc: Global, number: u32, row: &[u32]) -> Result<Text, OutOf
     requires { length row.now ≤ 1000000 }
     ensures { IfOk result (λ text. text ≡ model_line number row.now) }
 {
-    let mut text = String::from_str(alloc, "model ")?;
-    push_number(&mut text, number)?;
-    text.push_str(":")?;
-    push_literals(&mut text, row)?;
-    text.push_str("\n")?;
-    Ok(Text::of(text))
+    let mut text = format!(in alloc; "model {number}:")?;
+    let pushed = push_model(&mut text, row);
+    written(text, pushed)
+}
+
+/// The literals of a model, and a line feed.
+fn push_model(text: &mut String, row: &[u32]) -> Result<(), OutOfMemory>
+    requires { length row.now ≤ 1000000 }
+    ensures { OnOk result
+        (string_bytes text.new ≡ string_bytes text.old ++ model_words 1 row.now ++ 10 ∷ []) }
+{
+    push_literals(text, row)?;
+    push_line_feed(text)
 }
 
 fn accepted(alloc: Global, blocked: u64) -> Result<Text, OutOfMemory>
     ensures { IfOk result (λ text. text ≡ models_verdict_line (Accepted 0 0 blocked)) }
 {
-    let mut text = String::from_str(alloc, "log accepted: blocked ")?;
-    push_count(&mut text, blocked)?;
-    text.push_str("\n")?;
+    let text = format!(in alloc; "log accepted: blocked {blocked}\n")?;
     Ok(Text::of(text))
 }
 

@@ -3,7 +3,6 @@ ghost use Rattle.std.specs.Prelude.{◌≡◌, ◌++◌, ◌∷◌, [], IfOk, On
 ghost use Rattle.std.specs.List.{last_or};
 ghost use Rattle.cc_print.specs.Summaries.{empty_horizons, ended_lines, ending_lines, endings_told, number_line, summary};
 
-use crate::texts::push_count;
 use cc_defs::{Ending, Event, OutOfMemory, Outcome, Text, Told};
 use std::alloc::Global;
 
@@ -32,10 +31,7 @@ fn push_line(text: &mut String, name: &str, number: u64) -> Result<(), OutOfMemo
     ensures { OnOk result
         (string_bytes text.new ≡ string_bytes text.old ++ number_line name.now number) }
 {
-    text.push_str(name)?;
-    text.push_str(" ")?;
-    push_count(text, number)?;
-    text.push_str("\n")?;
+    write!(text, "{name} {number}\n")?;
     Ok(())
 }
 
@@ -76,9 +72,7 @@ fn push_ended(text: &mut String, horizon: u32, listed: u32, word: &str) -> Resul
 {
     push_line(text, "horizon", u64::from(horizon))?;
     push_line(text, "histories", u64::from(listed))?;
-    text.push_str("ending ")?;
-    text.push_str(word)?;
-    text.push_str("\n")?;
+    write!(text, "ending {word}\n")?;
     Ok(())
 }
 

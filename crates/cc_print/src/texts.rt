@@ -1,8 +1,9 @@
 //! The printed texts of keys, events and refusals.
-ghost use Rattle.std.specs.Prelude.{◌≡◌, ◌++◌, ◌∷◌, ◌<◌, [], IfOk, OnOk, codes, decimal, string_bytes, map, flat_map};
+ghost use Rattle.std.specs.Prelude.{◌≡◌, ◌++◌, ◌∷◌, ◌<◌, [], IfOk, Ok, OnOk, codes, decimal, string_bytes, map, flat_map};
 ghost use Rattle.std.specs.List.{join_with_byte};
 ghost use Rattle.cc_defs.specs.Events as events;
 ghost use Rattle.cc_defs.specs.Texts as texts;
+ghost use Rattle.cc_defs.specs.Refusals.{refusal_name};
 ghost use Rattle.cc_print.specs.Refusals.{refusal_line, place_text, limit_text};
 
 use cc_defs::{Ending, Event, LimitAt, OutOfMemory, Refusal, Text};
@@ -14,8 +15,8 @@ pub fn key_text(alloc: Global, horizon: u32, row: &[u32]) -> Result<Text, OutOfM
     ensures { IfOk result (λ text. text ≡ texts.key_text horizon row.now) }
 {
     let mut text = String::with_capacity(alloc, row.len().saturating_mul(2).saturating_add(12))?;
-    push_key(&mut text, horizon, row)?;
-    Ok(Text::of(text))
+    let pushed = push_key(&mut text, horizon, row);
+    written(text, pushed)
 }
 
 /// The line of a key behind some words, its line feed included.
@@ -73,9 +74,7 @@ fn listed_line(alloc: Global, horizon: u32, said: &str, listed: u32) -> Result<T
     ensures { IfOk result (λ text.
         text ≡ events.of_horizon horizon (said.now ++ decimal listed ++ codes " listed")) }
 {
-    let mut line = String::from_str(alloc, said)?;
-    push_number(&mut line, listed)?;
-    line.push_str(" listed")?;
+    let line = format!(in alloc; "{said}{listed} listed")?;
     horizon_line(alloc, horizon, &line)
 }
 
@@ -110,13 +109,26 @@ pub fn refusal_text(alloc: Global, refusal: &Refusal, file: &str) -> Result<Text
     ensures { IfOk result (λ text. text ≡ refusal_line refusal.now file.now) }
 {
     let mut text = String::from_str(alloc, "ccalc: ")?;
-    push_place(&mut text, refusal, file)?;
-    push_number(&mut text, u32::from(refusal.number))?;
-    text.push_str(" ")?;
-    text.push_str(refusal.name())?;
-    push_limit(&mut text, refusal.limit)?;
-    text.push_str("\n")?;
-    Ok(Text::of(text))
+    let pushed = push_refusal(&mut text, refusal, file);
+    written(text, pushed)
+}
+
+/// The text, where all of it was pushed.
+pub(crate) fn written(text: String, pushed: Result<(), OutOfMemory>) -> Result<Text, OutOfMemory>
+    ensures { IfOk result (λ made. (made ≡ string_bytes text) × (pushed ≡ Ok tt)) }
+{
+    match pushed {
+        Ok(()) => Ok(Text::of(text)),
+        Err(error) => Err(error),
+    }
+}
+
+/// Writes a line feed.
+pub(crate) fn push_line_feed(text: &mut String) -> Result<(), OutOfMemory>
+    ensures { OnOk result (string_bytes text.new ≡ string_bytes text.old ++ 10 ∷ []) }
+{
+    text.push('\n')?;
+    Ok(())
 }
 
 /// Writes a key: the horizon, `:`, and the indexes of the row with `,` between them.
@@ -155,6 +167,19 @@ fn push_others(text: &mut String, others: &[u32]) -> Result<(), OutOfMemory>
     Ok(())
 }
 
+/// Writes what stands in the line of a refusal behind the program's name.
+fn push_refusal(text: &mut String, refusal: &Refusal, file: &str) -> Result<(), OutOfMemory>
+    ensures { OnOk result (string_bytes text.new ≡ string_bytes text.old
+        ++ place_text refusal.now file.now ++ decimal refusal.now.number ++ codes " "
+        ++ refusal_name refusal.now.number ++ limit_text refusal.now.limit ++ 10 ∷ []) }
+{
+    let number = refusal.number;
+    let name = refusal.name();
+    push_place(text, refusal, file)?;
+    write!(text, "{number} {name}")?;
+    push_limit(text, refusal.limit)
+}
+
 /// Writes the file and the line of a refusal that has a place.
 fn push_place(text: &mut String, refusal: &Refusal, file: &str) -> Result<(), OutOfMemory>
     ensures { OnOk result
@@ -163,24 +188,23 @@ fn push_place(text: &mut String, refusal: &Refusal, file: &str) -> Result<(), Ou
     if refusal.line == 0 {
         return Ok(());
     }
-    text.push_str(file)?;
-    text.push_str(":")?;
-    push_number(text, refusal.line)?;
-    text.push_str(": ")?;
+    let line = refusal.line;
+    write!(text, "{file}:{line}: ")?;
     Ok(())
 }
 
-/// Writes the limit of a refusal that has one, and its number.
+/// Writes the limit of a refusal that has one, and its number; and a line feed.
 fn push_limit(text: &mut String, limit: Option<LimitAt>) -> Result<(), OutOfMemory>
-    ensures { OnOk result (string_bytes text.new ≡ string_bytes text.old ++ limit_text limit) }
+    ensures { OnOk result
+        (string_bytes text.new ≡ string_bytes text.old ++ limit_text limit ++ 10 ∷ []) }
 {
     match limit {
-        None => Ok(()),
+        None => push_line_feed(text),
         Some(limit) => {
-            text.push_str(" ")?;
-            text.push_str(limit.name())?;
-            text.push_str(" ")?;
-            push_number(text, limit.number())
+            let name = limit.name();
+            let number = limit.number();
+            write!(text, " {name} {number}\n")?;
+            Ok(())
         }
     }
 }

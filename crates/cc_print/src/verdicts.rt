@@ -3,7 +3,6 @@ ghost use Rattle.std.specs.Prelude.{◌≡◌, IfOk};
 ghost use Rattle.cc_print.specs.Verdicts.{verdict_line};
 ghost use Rattle.cc_defs.specs.declared.log.LogVerdict.TheVariants.{Accepted, Refused};
 
-use crate::texts::{push_count, push_number};
 use cc_defs::{Cause, LogVerdict, OutOfMemory, Text};
 use std::alloc::Global;
 
@@ -21,23 +20,14 @@ pub fn verdict_text(alloc: Global, verdict: &LogVerdict) -> Result<Text, OutOfMe
 fn accepted(alloc: Global, from: u32, to: u32, blocked: u64) -> Result<Text, OutOfMemory>
     ensures { IfOk result (λ text. text ≡ verdict_line (Accepted from to blocked)) }
 {
-    let mut text = String::from_str(alloc, "log accepted: horizons ")?;
-    push_number(&mut text, from)?;
-    text.push_str(" to ")?;
-    push_number(&mut text, to)?;
-    text.push_str(", blocked ")?;
-    push_count(&mut text, blocked)?;
-    text.push_str("\n")?;
+    let text = format!(in alloc; "log accepted: horizons {from} to {to}, blocked {blocked}\n")?;
     Ok(Text::of(text))
 }
 
 fn refused(alloc: Global, line: u32, cause: Cause) -> Result<Text, OutOfMemory>
     ensures { IfOk result (λ text. text ≡ verdict_line (Refused line cause)) }
 {
-    let mut text = String::from_str(alloc, "log refused: line ")?;
-    push_number(&mut text, line)?;
-    text.push_str(", ")?;
-    text.push_str(cause.words())?;
-    text.push_str("\n")?;
+    let words = cause.words();
+    let text = format!(in alloc; "log refused: line {line}, {words}\n")?;
     Ok(Text::of(text))
 }

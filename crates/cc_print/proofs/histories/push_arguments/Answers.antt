@@ -3,5 +3,5 @@ use Rattle.std.proofs.lemmas.Grind.{common_steps}
 use Rattle.cc_print.proofs.Joins.{join_with_byte-cons}
 use Rattle.cc_print.proofs.histories.push_arguments.Goals as goal
 
-pub returns-in_ok-push-in-len1-up-2 : goal.returns-in_ok-push-in-len1-up-2
-returns-in_ok-push-in-len1-up-2 c = grind (arith, common_steps, join_with_byte-cons)
+pub returns-in_ok-push-in-len1-up : goal.returns-in_ok-push-in-len1-up
+returns-in_ok-push-in-len1-up c = grind (arith, common_steps, join_with_byte-cons)
