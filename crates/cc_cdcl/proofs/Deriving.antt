@@ -1,6 +1,6 @@
 -- Conflict analysis: how the staged clause is resolved back along the trail, and what is derived in the end.
-use Rattle.std.proofs.Common.{◌≡◌, ◌≢◌, ◌∙◌, ℕ, ◌+◌, ◌-◌, ◌<◌, ◌≤◌, zero, suc, inl, inr, Bool, true, false, List, [], ◌∷◌, ◌++◌, length, map, take, drop, get_or, Option, Some, option_and_then, refl, sym, subst, ap, arith, length-append, append-nil}
-use Rattle.std.specs.Prelude.{◌⊎◌, Contains, slice_get, IfSome, OnErr, OnOk, Result, Ok, Err}
+use Rattle.std.proofs.Common.{◌≡◌, ◌≢◌, ◌∙◌, ℕ, ◌+◌, ◌-◌, ◌<◌, ◌≤◌, zero, suc, inl, inr, Bool, true, false, List, [], ◌∷◌, ◌++◌, length, map, take, drop, get_or, None, Option, Some, option_and_then, refl, sym, subst, ap, arith, length-append, append-nil}
+use Rattle.std.specs.Prelude.{◌⊎◌, Contains, slice_get, IfNone, IfOk, IfSome, OnErr, OnOk, Result, Ok, Err}
 use Rattle.std.specs.Bool.{MatchBool}
 use Rattle.std.specs.List.{AllByRecursion}
 use Rattle.std.proofs.lemmas.List.{length-map}
@@ -153,9 +153,21 @@ pub on_ok : {T E : Type 0} (P : Type 0) (result : Result T E) → P → OnOk res
 on_ok P (Ok value) holds = holds
 on_ok P (Err error) holds = tt
 
+pub ok_of : {T E : Type 0} (P : T → Type 0) (result : Result T E) (value : T) → result ≡ Ok value → IfOk result P → P value
+ok_of P result value is holds = rw is at holds
+
 pub on_err : {T E : Type 0} (P : Type 0) (result : Result T E) → P → OnErr result P
 on_err P (Ok value) p = tt
 on_err P (Err error) p = p
+
+pub by_ok : {T E : Type 0} (A B C P : Type 0) (result : Result T E) → OnOk result A → OnOk result B → OnOk result C → (A → B → C → P) → OnOk result P
+by_ok A B C P (Ok value) a b c holds = holds a b c
+by_ok A B C P (Err error) a b c holds = tt
+
+pub none_always : {T E : Type 0} (P : Type 0) (result : Result (Option T) E) → P → IfOk result (λ found. IfNone found P)
+none_always P (Ok (Some found)) holds = tt
+none_always P (Ok None) holds = holds
+none_always P (Err error) holds = tt
 
 pub when_true : (P Q : Type 0) (b : Bool) → b ≡ true → MatchBool b P Q → P
 when_true P Q b is matched = rw is at matched

@@ -220,6 +220,9 @@ earned_behind before (entry ∷ axioms) later earned =
     (earned_behind (before ++ entry.clause ∷ []) axioms later earned.1)
 
 -- without an empty clause, fewer clauses are derived than the power of 3
+pub one_more : (now before old derived budget : ℕ) → now ≡ before + 1 → before ≡ old → derived ≡ before → old ≤ budget → derived ≢ budget → now ≤ budget
+one_more now before old derived budget count same so_far most apart = omega arith
+
 pub few_derived : (law : EarnedLinesAreFew) (sizes : List ℕ) (kernel : KernelView) → IsSection sizes kernel → (Contains (clauses_of kernel) [] → ⊥) → (opens : ℕ) →
     HasOpen kernel.variables (axiom_clauses kernel) opens → derived_count kernel.entries < 3 ^ opens
 few_derived law sizes kernel section none opens open_are =

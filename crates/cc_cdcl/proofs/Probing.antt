@@ -45,6 +45,12 @@ trail_decided kernel old new literal is are new_is fits settled = record {
   opened = subst (λ (t : TrailView). OpenLevels t.steps) (sym new_is) (opens_decided old.variables old literal are is.opened);
 }
 
+pub decided_longer : (old new : TrailView) (literal : Literal) → new ≡ decided old literal → length old.steps < length new.steps
+decided_longer old new literal new_is =
+    let one : Step = record { lit = literal; level = old.level_count + 1; reason = None } in
+    let last : length new.steps ≡ length (old.steps ++ one ∷ []) = ap (λ (t : TrailView). length t.steps) new_is in
+    let more = length-append old.steps (one ∷ []) in omega arith
+
 pub round_longer : (old middle new : TrailView) (literal : Literal) → IsPropagated old middle → new ≡ decided middle literal → length old.steps < length new.steps
 round_longer old middle new literal propagated new_is =
     let one : Step = record { lit = literal; level = middle.level_count + 1; reason = None } in

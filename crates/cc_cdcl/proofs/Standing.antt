@@ -1,16 +1,16 @@
 -- A solver by its parts: where it stands, and what a step leaves true.
-use Rattle.std.proofs.Common.{◌≡◌, ◌∙◌, ℕ, ◌+◌, ◌<◌, ◌≤◌, List, [], ◌∷◌, ◌++◌, zero, suc, length, take, drop, get_or, replicate, refl, sym, subst, ap, arith}
+use Rattle.std.proofs.Common.{◌≡◌, ◌∙◌, ℕ, ◌+◌, ◌<◌, ◌≤◌, List, [], ◌∷◌, ◌++◌, zero, suc, length, take, drop, get_or, replicate, set, false, refl, sym, subst, ap, append_assoc, arith}
 use Rattle.std.specs.Prelude.{Contains, Bool}
 use Rattle.std.specs.List.{sum}
 use Rattle.std.specs.Vec.{with_items}
 use Rattle.std.proofs.Math.Seq.{take-append_seam}
-use Rattle.std.proofs.lemmas.List.{with_items_is}
+use Rattle.std.proofs.lemmas.List.{drop_more, take_more_set, with_items_is}
 use Rattle.std.proofs.lemmas.List.Elements.{Contains-push}
-use Rattle.std.proofs.lemmas.List.Sums.{sum_by-cons}
+use Rattle.std.proofs.lemmas.List.Sums.{sum_by-cons, sum_by-drop_more}
 use Rattle.cc_defs.specs.Assignments.{IsClosed, IsFailed}
 use Rattle.cc_defs.specs.Clauses.{Literal, IsClause, IsOver}
 use Rattle.cc_defs.specs.Rows.{IsRow}
-use Rattle.cc_defs.specs.Sections.{row_denial}
+use Rattle.cc_defs.specs.Sections.{denial_from, row_denial}
 use Rattle.cc_clauses.specs.RowsOf.{HasRow, IsLeastRowOf, MeetsAll}
 use Rattle.cc_kernel.specs.declared.kernel.Origin.TheVariants as origins
 use Rattle.cc_kernel.specs.Kernels.{KernelView, clauses_of}
@@ -26,7 +26,7 @@ use Rattle.cc_cdcl.specs.Choices.{AreChosen}
 use Rattle.cc_cdcl.specs.Cursors.{IsCursor}
 use Rattle.cc_cdcl.specs.Derivations.{IsBackOver, Learns}
 use Rattle.cc_cdcl.specs.Laws.{LeastRowIsFound}
-use Rattle.cc_cdcl.specs.LeastRows.{row_from, row_of}
+use Rattle.cc_cdcl.specs.LeastRows.{row_from, row_of, true_index}
 use Rattle.cc_cdcl.specs.Searches.{IsInPhase, IsSearching, IsSection, IsTrailOf}
 use Rattle.cc_cdcl.specs.Sets.{IsFull, assignment_of}
 use Rattle.cc_cdcl.specs.SolverParts.{IsOfTrail, IsRunning, IsSolver, Stands, standing_of, view_of}
@@ -274,6 +274,38 @@ pub sum_at : (sizes : List ℕ) (index : ℕ) → index < length sizes → get_o
 sum_at [] index low = absurd (omega arith)
 sum_at (size ∷ sizes) zero low = let all : sum (size ∷ sizes) ≡ size + sum sizes = sum_by-cons (λ (n : ℕ). n) size sizes in omega arith
 sum_at (size ∷ sizes) (suc index) low = sum_at sizes index (omega arith)
+
+pub sum_left : (sizes : List ℕ) (index first most : ℕ) → index < length sizes → first + sum (drop index sizes) ≤ most →
+    first + get_or sizes index 0 + sum (drop (index + 1) sizes) ≤ most
+sum_left sizes index first most low within =
+    let all : sum (drop index sizes) ≡ get_or sizes index 0 + sum (drop (index + 1) sizes) = sum_by-drop_more (λ (n : ℕ). n) sizes index 0 low in omega arith
+
+pub row_left : (sizes row : List ℕ) (index : ℕ) → IsRow (drop index sizes) (drop index row) → index < length sizes → IsRow (drop (index + 1) sizes) (drop (index + 1) row)
+row_left sizes row index is low =
+    let here = row_at sizes row index is low in
+    let both : IsRow (get_or sizes index 0 ∷ drop (index + 1) sizes) (get_or row index 0 ∷ drop (index + 1) row) =
+    subst (λ (ns : List ℕ). IsRow ns (get_or row index 0 ∷ drop (index + 1) row)) (drop_more sizes index 0 low)
+    (subst (λ (ns : List ℕ). IsRow (drop index sizes) ns) (drop_more row index 0 here.0) is) in
+    both.1
+
+pub denial_left : (sizes row : List ℕ) (index first : ℕ) (clause next : List Literal) → index < length sizes → index < length row →
+    next ≡ clause ++ (record { variable = first + get_or row index 0; positive = false }) ∷ [] →
+    next ++ denial_from (first + get_or sizes index 0) (drop (index + 1) sizes) (drop (index + 1) row) ≡ clause ++ denial_from first (drop index sizes) (drop index row)
+denial_left sizes row index first clause next low row_low next_is =
+    let rest = denial_from (first + get_or sizes index 0) (drop (index + 1) sizes) (drop (index + 1) row) in
+    ap (λ (lits : List Literal). lits ++ rest) next_is
+    ∙ append_assoc clause ((record { variable = first + get_or row index 0; positive = false }) ∷ []) rest
+    ∙ sym (λ i. clause ++ denial_from first (drop_more sizes index 0 low i) (drop_more row index 0 row_low i))
+
+pub row_more : (sizes row : List ℕ) (index first value : ℕ) (a : ℕ → Bool) → length row ≡ length sizes → index < length sizes →
+    value ≡ true_index a first (get_or sizes index 0) →
+    take (index + 1) (set row index value) ++ row_from (first + get_or sizes index 0) (drop (index + 1) sizes) a ≡ take index row ++ row_from first (drop index sizes) a
+row_more sizes row index first value a room low value_is =
+    let rest = row_from (first + get_or sizes index 0) (drop (index + 1) sizes) a in
+    ap (λ (ns : List ℕ). ns ++ rest) (take_more_set row index value (omega arith))
+    ∙ append_assoc (take index row) (value ∷ []) rest
+    ∙ ap (λ (n : ℕ). take index row ++ n ∷ rest) value_is
+    ∙ sym (ap (λ (ns : List ℕ). take index row ++ row_from first ns a) (drop_more sizes index 0 low))
 
 -- ---- what a step says
 

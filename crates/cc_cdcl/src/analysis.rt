@@ -453,8 +453,7 @@ pub fn learn(
     probe.weigh(kernel.clause(number).len(), kernel.chain().len() / 2);
     probe.take_back(trail, back);
     trail.back_to(back);
-    trail.attach_over(kernel, number)?;
-    Ok(())
+    trail.attach_over(kernel, number)
 }
 
 // The level to go back to before a false clause is attached: its highest one where two literals are of it, else the second

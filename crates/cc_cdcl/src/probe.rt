@@ -106,11 +106,7 @@ impl Probe {
     /// come to no more than these, and looking at all of them takes twice as long at most.
     pub fn begin(&mut self, variables: u32, lines: u32) -> Result<(), OutOfMemory> {
         self.order.fill(variables)?;
-        self.signs.reserve(variables as usize)?;
-        for _ in 0..variables {
-            self.signs.push(false)?;
-        }
-        self.signs.push(false)?;
+        self.signs.resize(variables as usize + 1, false)?;
         self.lines = lines;
         self.phase = Phase::Probing;
         Ok(())
@@ -170,13 +166,11 @@ impl Probe {
         requires few { variable ≤ most_variables }
         ensures { result.variable ≡ variable }
     {
-        match self.signs.get(variable as usize) {
-            Some(sign) => if *sign {
-                Lit::positive(variable)
-            } else {
-                Lit::negative(variable)
-            },
-            None => Lit::negative(variable),
+        let sign = self.signs.get(variable as usize).copied();
+        if sign.unwrap_or(false) {
+            Lit::positive(variable)
+        } else {
+            Lit::negative(variable)
         }
     }
 

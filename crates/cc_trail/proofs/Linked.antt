@@ -1,6 +1,7 @@
 -- What stays true of links: a walk begins and goes on, a node is moved to another list, the last one is taken out, two are added.
 use Rattle.std.proofs.Common.{◌≡◌, ◌≢◌, ◌∙◌, ℕ, ◌+◌, ◌-◌, ◌*◌, ◌<◌, ◌≤◌, zero, suc, inl, inr, List, [], ◌∷◌, ◌++◌, length, get_or, replicate, set, take, refl, sym, subst, ap, arith}
-use Rattle.std.specs.Prelude.{◌↔◌, drop}
+use Rattle.std.specs.Prelude.{◌↔◌, drop, Result, Ok, Err, IsOk, if◌then◌else◌, is_ok}
+use Rattle.std.proofs.lemmas.Bool.{false≢true}
 use Rattle.std.proofs.lemmas.Bool.Decides.{eqb_tells}
 use Rattle.std.proofs.lemmas.List.{length-replicate, length-set, length-take-le, length_push, get_or-take, get_or-set_other, get_or-set_same, get_or_append_left, get_or_push, set_comm}
 use Rattle.cc_defs.specs.Clauses.{Literal, IsIn, IsLiteralOver}
@@ -99,7 +100,7 @@ module _ (variables : ℕ) (lists : List (List ℕ)) (watched : List Literal) (w
   within : ahead - 1 < length (list_at lists walked)
   within = omega (arith, first.0, links.ahead_low)
 
-  node_within : node < length watched
+  pub node_within : node < length watched
   node_within = subst (λ (m : ℕ). m < length watched) (sym (first.1)) (links.listed.within walked (ahead - 1) within)
 
   node_code : coded_by watched node ≡ walked
@@ -153,6 +154,9 @@ module _ (variables : ℕ) (lists : List (List ℕ)) (watched : List Literal) (w
     pushed_walked =
         ap (λ (ls : List (List ℕ)). list_at ls walked) pushed_is
         ∙ get_or-set_other lists code walked (list_at lists code ++ node ∷ []) [] (λ e. code_apart (sym e))
+
+    pub place_low : ahead - 1 < length (list_at pushed walked)
+    place_low = subst (λ (numbers : List ℕ). ahead - 1 < length numbers) (sym pushed_walked) within
 
     pushed_count : length pushed ≡ length lists
     pushed_count = ap length pushed_is ∙ length-set lists code (list_at lists code ++ node ∷ [])
@@ -219,6 +223,15 @@ module _ (variables : ℕ) (lists : List (List ℕ)) (watched : List Literal) (w
         ∙ sym (first.2)
 
 -- ---- two nodes are added
+
+-- what a push does that succeeds
+pub pushed : {A T E : Type 0} (result : Result T E) (old new : List A) (item : A) → new ≡ (if is_ok result then old ++ item ∷ [] else old) → IsOk result → new ≡ old ++ item ∷ []
+pushed (Ok value) old new item items ok = items
+pushed (Err error) old new item items ok = absurd (false≢true ok)
+
+pub pushed_len : {T E : Type 0} (result : Result T E) (old new : ℕ) → new ≡ (if is_ok result then old + 1 else old) → IsOk result → new ≡ old + 1
+pushed_len (Ok value) old new len ok = len
+pushed_len (Err error) old new len ok = absurd (false≢true ok)
 
 one_added : (lists : List (List ℕ)) (watched : List Literal) (literal : Literal) (node code : ℕ) → AreListed lists watched → node ≡ length watched →
     code ≡ code_of literal → code < length lists → AreListed (set lists code (list_at lists code ++ node ∷ [])) (watched ++ literal ∷ [])

@@ -137,6 +137,49 @@ module _ (inside : Inside) (old : List (List ℕ)) (is : view_of inside ≡ old)
           same : count ≡ length (numbers_in inside.numbers.items room) - 1
           same = omega (arith, count_is, counted inside.numbers.items room room_in)
 
+  -- a room with fewer numbers
+  module _ (count : ℕ) (count_is : count ≡ room.count - 1) where
+    abbrev pub less : Room
+    less = record room { count = count }
+
+    abbrev less_at : List Room → ℕ → Room
+    less_at these other = get_or these other no_room
+
+    same_ends : (other : ℕ) → ((less_at (set inside.rooms.items list less) other).start ≡ (less_at inside.rooms.items other).start) ×
+        ((less_at (set inside.rooms.items list less) other).most ≡ (less_at inside.rooms.items other).most) ×
+        ((less_at (set inside.rooms.items list less) other).count ≤ (less_at inside.rooms.items other).count)
+    same_ends other = elim (eqb_tells other list) [
+      | inl here ↦
+          let new_is : less_at (set inside.rooms.items list less) other ≡ less =
+          ap (less_at (set inside.rooms.items list less)) here.1 ∙ get_or-set_same inside.rooms.items list less no_room listed in
+          let old_is : less_at inside.rooms.items other ≡ room = ap (less_at inside.rooms.items) here.1 ∙ sym room_is in
+          let new_count = ap (λ (r : Room). r.count) new_is in
+          let old_count = ap (λ (r : Room). r.count) old_is in (
+            ap (λ (r : Room). r.start) new_is ∙ ap (λ (r : Room). r.start) (sym old_is),
+            ap (λ (r : Room). r.most) new_is ∙ ap (λ (r : Room). r.most) (sym old_is),
+            omega (arith, count_is),
+          )
+      | inr there ↦
+          let kept : less_at (set inside.rooms.items list less) other ≡ less_at inside.rooms.items other = get_or-set_other inside.rooms.items list other less no_room there.1 in
+          let same = ap (λ (r : Room). r.count) kept in
+          (ap (λ (r : Room). r.start) kept, ap (λ (r : Room). r.most) kept, omega arith)
+    ]
+
+    pub less_rooms : (new : Inside) → new.rooms.items ≡ set inside.rooms.items list less → new.numbers.items ≡ inside.numbers.items → AreRooms new
+    less_rooms new rooms_are numbers_are = record {
+      inside = rw (rooms_are, numbers_are) (λ other low.
+          let one = rooms.inside other (omega (arith, low, length-set inside.rooms.items list less)) in
+          let (start, most, fewer) = same_ends other in record { counted = omega (arith, one.counted); within = omega (arith, one.within) });
+      apart = rw rooms_are (λ one two one_low two_low other.
+          let count = length-set inside.rooms.items list less in
+          let (start, most, fewer) = same_ends one in
+          let (begin, end, lower) = same_ends two in elim (rooms.apart one two (omega (arith, one_low, count)) (omega (arith, two_low, count)) other) [
+            | inl before ↦ inl (omega (arith, before))
+            | inr behind ↦ inr (omega (arith, behind))
+          ]);
+      few = rw numbers_are rooms.few;
+    }
+
   -- the last number of the list
   pub last_here : (x : ℕ) → 0 < room.count → x ≡ get_or inside.numbers.items (room.start + room.count - 1) x → x ≡ get_or (list_at old list) (length (list_at old list) - 1) 0
   last_here x some x_is =

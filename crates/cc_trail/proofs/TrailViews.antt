@@ -14,6 +14,10 @@ use Rattle.cc_trail.proofs.StepLists.{levels_most, steps_push}
 use Rattle.cc_trail.proofs.Values.{settled_decided, settled_back, fits_decided, fits_back}
 
 module _ (inside : Inside) (old : TrailView) (is : view_of inside ≡ old) (parts : AreParts inside) where
+  pub over_links : (literal : Literal) → IsLiteralOver old.variables literal → IsLiteralOver inside.links.variables literal
+  over_links literal over =
+      subst (λ (n : ℕ). IsLiteralOver n literal) (sym (parts.variables ∙ ap (λ (v : TrailView). v.variables) is)) over
+
   trail_here : IsTrail old
   trail_here = subst (λ (v : TrailView). IsTrail v) is parts.trail_is
 

@@ -223,8 +223,9 @@ impl Links {
         let one = count as u32;
         self.watched.reserve(2)?;
         self.lists.push_two(code(a), one, code(b), one + 1)?;
-        self.watched.push(a)?;
-        self.watched.push(b)?;
+        // There is room for both.
+        let _ = self.watched.push(a);
+        let _ = self.watched.push(b);
         self.walked = 0;
         self.ahead = 0;
         Ok(())

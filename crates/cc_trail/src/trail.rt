@@ -126,9 +126,9 @@ impl Trail {
     {
         let variables = kernel.variables();
         Ok(Trail {
-            entries: Entries::new(alloc, variables)?,
-            links: Links::new(alloc, variables)?,
             pairs: Pairs::over(alloc, kernel)?,
+            links: Links::new(alloc, variables)?,
+            entries: Entries::new(alloc, variables)?,
             attached: 0,
             shorts: Vec::new(alloc),
             longs: Vec::new(alloc),
@@ -144,10 +144,23 @@ impl Trail {
         ensures settled { IfOk result (λ trail. IsSettled trail kernel.now) }
     {
         let mut trail = Trail::empty(alloc, kernel)?;
-        for index in 0..kernel.count() {
-            trail.attach(kernel, index + 1)?;
+        match trail.attach_all(kernel) {
+            Ok(()) => Ok(trail),
+            Err(error) => Err(error),
         }
-        Ok(trail)
+    }
+
+    // Attaches the clauses of a kernel, where none is attached and no variable has a value.
+    fn attach_all(&mut self, kernel: &Kernel) -> Result<(), OutOfMemory>
+        requires { IsEmptyOver kernel.now.variables self.old }
+        ensures new { OnOk result (IsNew self.new kernel.now) }
+        ensures fits { OnOk result (Fits self.new kernel.now) }
+        ensures settled { OnOk result (IsSettled self.new kernel.now) }
+    {
+        for index in 0..kernel.count() {
+            self.attach(kernel, index + 1)?;
+        }
+        Ok(())
     }
 
     // Attaches a clause of fewer than two literals.
@@ -190,7 +203,8 @@ impl Trail {
     {
         self.longs.reserve(1)?;
         self.links.add_two(pair.first, pair.second)?;
-        self.longs.push(id)?;
+        // There is room.
+        let _ = self.longs.push(id);
         self.visited = entries_before(&self.entries, self.visited, pair.first, pair.second);
         self.attached = id;
         Ok(())
@@ -301,7 +315,8 @@ impl Trail {
     {
         self.longs.reserve(1)?;
         self.links.add_two(pair.first, pair.second)?;
-        self.longs.push(id)?;
+        // There is room.
+        let _ = self.longs.push(id);
         self.entries.push(pair.first, Some(id));
         self.attached = id;
         Ok(())

@@ -14,3 +14,6 @@ resolve_back-requires-clause-fits c = fits_kept c.args.trail.now c.args.kernel.n
 
 pub clause-requires : goal.clause-requires
 clause-requires c = subst (λ (entries : List Entry). (0 < c.args.id) × (c.args.id ≤ length entries)) (sym (started_kept c.args.kernel.now c.start.new.self c.args.id c.in_ok-start.ensures.started).entries) (numbered_there c.args.kernel.now c.args.id c.requires.failed.0 c.requires.failed.1)
+
+pub start-requires : goal.start-requires
+start-requires c = numbered_there c.args.kernel.now c.args.id c.requires.failed.0 c.requires.failed.1

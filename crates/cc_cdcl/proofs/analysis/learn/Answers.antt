@@ -1,5 +1,5 @@
-use Rattle.std.proofs.Common.{inr, ◌+◌, ◌∙◌, ℕ, ap, length, subst, sym}
-use Rattle.cc_cdcl.proofs.Deriving.{adds, attached_back, back_low, back_mild, clauses_then, count_then, fits_then, learns, on_err, read_there, there_then}
+use Rattle.std.proofs.Common.{inr, ◌+◌, ◌<◌, ◌∙◌, ℕ, ap, length, subst, sym}
+use Rattle.cc_cdcl.proofs.Deriving.{adds, attached_back, back_low, back_mild, by_ok, clauses_then, count_then, fits_then, learns, on_err, on_ok, read_there, there_then}
 use Rattle.cc_defs.specs.Clauses.{IsOver}
 use Rattle.cc_trail.specs.Trails.{TrailView}
 use Rattle.cc_cdcl.proofs.analysis.learn.Goals as goal
@@ -20,16 +20,16 @@ attach_over-requires-clause-fits c =
 
 pub returns-clause-learned : goal.returns-clause-learned
 returns-clause-learned c =
-    learns c.learned_is_earned.ensures c.args.trail.now c.args.kernel.now c.derive.new.kernel c.finish.new.self c.level_count-level.ensures.steps c.requires.settled
+    on_ok _ c.attach_over.result (learns c.learned_is_earned.ensures c.args.trail.now c.args.kernel.now c.derive.new.kernel c.finish.new.self c.level_count-level.ensures.steps c.requires.settled
     c.requires.level c.in_ok-derive.ensures.derived (adds c.args.trail.now c.args.kernel.now c.derive.new.kernel c.finish.new.self c.level_count-level.ensures.steps c.requires.fits.variables c.derive.ensures.kept
     c.in_ok-derive.ensures.derived c.in_ok-number.ensures.added c.finish.ensures.reached c.requires.level)
     c.clause.result.now (read_there c.args.trail.now c.args.kernel.now c.derive.new.kernel c.finish.new.self c.level_count-level.ensures.steps c.requires.fits.variables c.derive.ensures.kept
     c.in_ok-derive.ensures.derived c.in_ok-number.ensures.added c.finish.ensures.reached c.requires.level _ c.clause.result.now
-    c.in_ok-number.ensures.number c.clause.ensures.clause) c.clause.ensures.is_clause c.clause.ensures.over
+    c.in_ok-number.ensures.number c.clause.ensures.clause) c.clause.ensures.is_clause c.clause.ensures.over)
 
 pub returns-clause-back : goal.returns-clause-back
 returns-clause-back c =
-    attached_back c.adding_keeps_settled.ensures c.args.trail.now c.back_to.new.self c.attach_over.new.self c.args.kernel.now c.finish.new.self
+    by_ok _ _ _ _ c.attach_over.result c.attach_over.ensures.attached c.attach_over.ensures.fits c.attach_over.ensures.settled (λ attached fits settled. attached_back c.adding_keeps_settled.ensures c.args.trail.now c.back_to.new.self c.attach_over.new.self c.args.kernel.now c.finish.new.self
     c.in_ok-derive.ensures.derived.derivation.clause c.highest_but-back.result
     (back_low c.args.trail.now c.args.kernel.now c.derive.new.kernel c.finish.new.self c.level_count-level.ensures.steps c.requires.fits.variables c.derive.ensures.kept
     c.in_ok-derive.ensures.derived c.in_ok-number.ensures.added c.finish.ensures.reached c.requires.level c.clause.result.now (read_there c.args.trail.now c.args.kernel.now c.derive.new.kernel c.finish.new.self c.level_count-level.ensures.steps c.requires.fits.variables c.derive.ensures.kept
@@ -45,11 +45,11 @@ returns-clause-back c =
     c.in_ok-derive.ensures.derived c.in_ok-number.ensures.added c.finish.ensures.reached c.requires.level _ c.clause.result.now
     c.in_ok-number.ensures.number c.clause.ensures.clause)
     c.level_count-level.result c.highest_but-back.result c.level_count-level.ensures.level_count c.highest_but-back.ensures c.learned_is_earned.ensures c.requires.settled)
-    (c.back_to.ensures.settled c.args.kernel.now c.requires.settled) c.in_ok-attach_over.ensures.attached c.in_ok-attach_over.ensures.fits c.in_ok-attach_over.ensures.settled
+    (c.back_to.ensures.settled c.args.kernel.now c.requires.settled) attached fits settled)
 
-pub returns-in_err-attach_over-clause-broken : goal.returns-in_err-attach_over-clause-broken
-returns-in_err-attach_over-clause-broken c =
-    on_err _ c.from_residual-in_err-attach_over.result (inr (learns c.learned_is_earned.ensures c.args.trail.now c.args.kernel.now c.derive.new.kernel c.finish.new.self c.level_count-level.ensures.steps c.requires.settled
+pub returns-clause-broken : goal.returns-clause-broken
+returns-clause-broken c =
+    on_err _ c.attach_over.result (inr (learns c.learned_is_earned.ensures c.args.trail.now c.args.kernel.now c.derive.new.kernel c.finish.new.self c.level_count-level.ensures.steps c.requires.settled
     c.requires.level c.in_ok-derive.ensures.derived (adds c.args.trail.now c.args.kernel.now c.derive.new.kernel c.finish.new.self c.level_count-level.ensures.steps c.requires.fits.variables c.derive.ensures.kept
     c.in_ok-derive.ensures.derived c.in_ok-number.ensures.added c.finish.ensures.reached c.requires.level)
     c.clause.result.now (read_there c.args.trail.now c.args.kernel.now c.derive.new.kernel c.finish.new.self c.level_count-level.ensures.steps c.requires.fits.variables c.derive.ensures.kept
@@ -79,3 +79,9 @@ pub highest_but-back-requires : goal.highest_but-back-requires
 highest_but-back-requires c =
     subst (λ (n : ℕ). IsOver n c.clause.result.now) ((adds c.args.trail.now c.args.kernel.now c.derive.new.kernel c.finish.new.self c.level_count-level.ensures.steps c.requires.fits.variables c.derive.ensures.kept
     c.in_ok-derive.ensures.derived c.in_ok-number.ensures.added c.finish.ensures.reached c.requires.level).variables ∙ sym c.requires.fits.variables) c.clause.ensures.over
+
+pub returns-clause-phase : goal.returns-clause-phase
+returns-clause-phase c = c.take_back.ensures ∙ c.weigh.ensures ∙ c.derive.ensures.phase
+
+pub finish-requires-clause-few : goal.finish-requires-clause-few
+finish-requires-clause-few c = subst (λ (n : ℕ). n < 4000000000) (sym (ap length c.derive.ensures.kept.entries)) c.requires.few

@@ -1,5 +1,8 @@
-use Rattle.std.proofs.Common.{◌-◌, refl, arith}
+use Rattle.std.proofs.Common.{◌-◌, refl, subst, sym, arith}
+use Rattle.cc_kernel.specs.Kernels.{KernelView}
+use Rattle.cc_cdcl.specs.Derivations.{IsDeriving}
 use Rattle.cc_cdcl.proofs.Deriving.{at_of, clashes_here, clashes_only_here, goes_on, literal_here, not_at_start, pivot_here, pivot_over, steps_on}
+use Rattle.cc_cdcl.proofs.Shorter.{place_within}
 use Rattle.cc_cdcl.proofs.analysis.resolve_next.Goals as goal
 
 pub clashing_reason-requires-clause-within : goal.clashing_reason-requires-clause-within
@@ -64,3 +67,15 @@ returns-clause-fewer c =
     c.requires.opened c.loop-place.invariant.derivation c.requires.unfinished in
     let test = c.loop-place-test.false in
     absurd (not_at_start c.args.trail.now c.loop-place.kernel c.loop-place.place at (omega arith))
+
+pub returns-clause-derivation : goal.returns-clause-derivation
+returns-clause-derivation c = subst (λ (k : KernelView). IsDeriving k c.args.trail.now c.args.start.place) (sym c.loop-place.invariant.same) c.requires.derivation
+
+pub returns-in-Some-clause-counted : goal.returns-in-Some-clause-counted
+returns-in-Some-clause-counted c = c.in_ok-held-in-Some.ensures.counted
+
+pub bounds-entries-place : goal.bounds-entries-place
+bounds-entries-place c =
+    let some = c.loop-place-test.true in
+    place_within c.args.trail.now.steps c.entries-entries.result.now (c.loop-place.place - 1) c.loop-place.place c.entries-entries.ensures.entries (omega arith)
+    c.loop-place.invariant.derivation.within

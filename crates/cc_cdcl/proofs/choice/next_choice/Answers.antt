@@ -1,4 +1,4 @@
-use Rattle.std.proofs.Common.{arith}
+use Rattle.std.proofs.Common.{◌∙◌, ◌+◌, ◌≤◌, ℕ, subst, sym, arith}
 use Rattle.cc_kernel.specs.Kernels.{clauses_of}
 use Rattle.cc_trail.specs.Steps.{values_of}
 use Rattle.cc_cdcl.proofs.Placing.{chosen_value, chosen_variable, position_within, some_open}
@@ -51,3 +51,19 @@ returns-clause-some c =
     chosen_variable c.args.sizes.now c.args.trail.now.variables c.args.trail.now.steps c.pass_positions-cursor.result c.pass_positions-cursor.ensures.cursor
     c.if-cursor-sizes.false c.first_open-variable.result c.first_open-variable.ensures.some (omega arith) (c.first_open-variable.ensures.open low)
     c.negative.result c.negative.ensures
+
+pub returns-clause-cursor : goal.returns-clause-cursor
+returns-clause-cursor c = record {
+  positions = c.pass_positions-cursor.ensures.cursor.positions;
+  some = c.first_open-variable.ensures.some;
+  most = subst (λ (n : ℕ). c.first_open-variable.result ≤ n + 1) (c.variables-variables.ensures.variables ∙ sym c.requires.variables) c.first_open-variable.ensures.most;
+  before = c.first_open-variable.ensures.before;
+}
+
+pub returns-then-variable-variables-clause-cursor : goal.returns-then-variable-variables-clause-cursor
+returns-then-variable-variables-clause-cursor c = record {
+  positions = c.pass_positions-cursor.ensures.cursor.positions;
+  some = c.first_open-variable.ensures.some;
+  most = subst (λ (n : ℕ). c.first_open-variable.result ≤ n + 1) (c.variables-variables.ensures.variables ∙ sym c.requires.variables) c.first_open-variable.ensures.most;
+  before = c.first_open-variable.ensures.before;
+}

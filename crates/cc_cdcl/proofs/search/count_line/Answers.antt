@@ -1,5 +1,6 @@
-use Rattle.std.proofs.Common.{◌∙◌, sym, ap}
-use Rattle.cc_cdcl.specs.Searches.{is_probing}
+use Rattle.std.proofs.Common.{◌∙◌, sym, subst, ap}
+use Rattle.cc_cdcl.specs.declared.probe.Phase.{Phase}
+use Rattle.cc_cdcl.specs.Searches.{IsInPhase, is_probing}
 use Rattle.cc_cdcl.proofs.Probing.{phase_of, phase_restarts}
 use Rattle.cc_cdcl.proofs.search.count_line.Goals as goal
 
@@ -12,3 +13,6 @@ returns-in-Restart c sizes kernel is =
 pub returns-in-End : goal.returns-in-End
 returns-in-End c sizes kernel is =
     phase_of _ sizes kernel c.begin_listing.new.trail c.begin_listing.new.cursors (c.begin_listing.ensures sizes kernel is.of_kernel)
+
+pub returns-in-More : goal.returns-in-More
+returns-in-More c sizes kernel is = subst (λ (phase : Phase). IsInPhase phase sizes kernel c.args.trail.now c.args.cursors.now) (sym c.count_line.ensures) is

@@ -3,6 +3,7 @@ use Rattle.std.proofs.Math.ListN.{length-set}
 use Rattle.cc_trail.specs.Trails.{TrailView}
 use Rattle.cc_cdcl.specs.Cursors.{AreCursors}
 use Rattle.cc_cdcl.proofs.Placing.{cursors_decided, level_within}
+use Rattle.cc_cdcl.proofs.Probing.{decided_longer}
 use Rattle.cc_cdcl.proofs.Stepping.{steps_few}
 use Rattle.cc_cdcl.proofs.search.decide.Goals as goal
 
@@ -35,3 +36,6 @@ returns-clause-cursors c =
     (rw (c.level_count.ensures.level_count, next)
     (cursors_decided c.args.sizes.now c.args.trail.now.variables c.args.trail.now.steps c.args.trail.now.level_count c.args.cursors.now c.requires.cursors
     c.args.cursor c.requires.cursor c.level_count.ensures.steps _ (omega (arith, few.0, few.1))))
+
+pub returns-clause-more : goal.returns-clause-more
+returns-clause-more c = decided_longer c.args.trail.now c.decide.new.self c.args.lit c.decide.ensures.decided

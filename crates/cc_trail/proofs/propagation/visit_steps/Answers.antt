@@ -7,11 +7,6 @@ use Rattle.cc_trail.specs.Trails.{IsFailedClause}
 use Rattle.cc_trail.specs.declared.entries.Step.{Step}
 use Rattle.cc_trail.proofs.propagation.visit_steps.Goals as goal
 
-pub returns-in-Some-clause-followed : goal.returns-in-Some-clause-followed
-returns-in-Some-clause-followed c =
-    followed_grown c.args.pairs.now c.loop-visited.visited c.loop-visited.entries c.visit_step.new.entries c.visit_step.ensures.grown (c.loop-visited.invariant.2).within
-    (c.loop-visited.invariant.4)
-
 pub returns-in_err-number-clause-followed : goal.returns-in_err-number-clause-followed
 returns-in_err-number-clause-followed c =
     followed_grown c.args.pairs.now c.loop-visited.visited c.loop-visited.entries c.visit_step.new.entries c.visit_step.ensures.grown (c.loop-visited.invariant.2).within
@@ -21,11 +16,6 @@ pub visit_pairs-requires-clause-followed : goal.visit_pairs-requires-clause-foll
 visit_pairs-requires-clause-followed c =
     followed_grown c.args.pairs.now c.loop-visited.visited c.loop-visited.entries c.visit_step.new.entries c.visit_step.ensures.grown (c.loop-visited.invariant.2).within
     (c.loop-visited.invariant.4)
-
-pub returns-in-Some-visit_pairs-clause-watched : goal.returns-in-Some-visit_pairs-clause-watched
-returns-in-Some-visit_pairs-clause-watched c =
-    watched_grown c.args.kernel.now c.args.longs.now c.loop-visited.visited c.visit_step.new.entries c.visit_pairs.new.entries c.visit_step.new.links c.visit_pairs.ensures.grown
-    c.visit_step.ensures.here
 
 pub loop-visited-preserved : goal.loop-visited-preserved
 loop-visited-preserved c = (
@@ -42,14 +32,6 @@ loop-visited-preserved c = (
 pub returns-in_err-number-clause-grown : goal.returns-in_err-number-clause-grown
 returns-in_err-number-clause-grown c = grown_then c.args.entries.now c.loop-visited.entries c.visit_step.new.entries c.loop-visited.invariant.1 c.visit_step.ensures.grown
 
-pub returns-in-Some-clause-grown : goal.returns-in-Some-clause-grown
-returns-in-Some-clause-grown c = grown_then c.args.entries.now c.loop-visited.entries c.visit_step.new.entries c.loop-visited.invariant.1 c.visit_step.ensures.grown
-
-pub returns-in-Some-visit_pairs-clause-grown : goal.returns-in-Some-visit_pairs-clause-grown
-returns-in-Some-visit_pairs-clause-grown c =
-    grown_then c.args.entries.now c.visit_step.new.entries c.visit_pairs.new.entries
-    (grown_then c.args.entries.now c.loop-visited.entries c.visit_step.new.entries c.loop-visited.invariant.1 c.visit_step.ensures.grown) c.visit_pairs.ensures.grown
-
 pub visit_pairs-requires-clause-within : goal.visit_pairs-requires-clause-within
 visit_pairs-requires-clause-within c =
     let more = ap (λ (steps : List Step). length steps) c.visit_step.ensures.grown.steps ∙ length-append c.loop-visited.entries.steps c.visit_step.ensures.grown.more in
@@ -57,6 +39,28 @@ visit_pairs-requires-clause-within c =
     let low = c.loop-visited-test.true in
     omega arith
 
-pub returns-in-Some-clause-failed : goal.returns-in-Some-clause-failed
-returns-in-Some-clause-failed c =
-    subst (λ (found : Option ℕ). IfSome found (λ number. IsFailedClause (clauses_of c.args.kernel.now) c.visit_step.new.entries.steps number)) c.in-Some.is c.in_ok-number.ensures.failed
+pub returns-in-Some : goal.returns-in-Some
+returns-in-Some c = record {
+  grown = grown_then c.args.entries.now c.loop-visited.entries c.visit_step.new.entries c.loop-visited.invariant.1 c.visit_step.ensures.grown;
+  sound = c.visit_step.ensures.sound;
+  watched = c.visit_step.ensures.here;
+  followed = followed_grown c.args.pairs.now c.loop-visited.visited c.loop-visited.entries c.visit_step.new.entries c.visit_step.ensures.grown
+      (c.loop-visited.invariant.2).within (c.loop-visited.invariant.4);
+  none = c.visit_step.ensures.none;
+  all = tt;
+  failed = subst (λ (found : Option ℕ). IfSome found (λ number. IsFailedClause (clauses_of c.args.kernel.now) c.visit_step.new.entries.steps number))
+      c.in-Some.is c.in_ok-number.ensures.failed;
+}
+
+pub returns-in-Some-visit_pairs : goal.returns-in-Some-visit_pairs
+returns-in-Some-visit_pairs c = record {
+  grown = grown_then c.args.entries.now c.visit_step.new.entries c.visit_pairs.new.entries
+      (grown_then c.args.entries.now c.loop-visited.entries c.visit_step.new.entries c.loop-visited.invariant.1 c.visit_step.ensures.grown) c.visit_pairs.ensures.grown;
+  sound = c.visit_pairs.ensures.sound;
+  watched = watched_grown c.args.kernel.now c.args.longs.now c.loop-visited.visited c.visit_step.new.entries c.visit_pairs.new.entries c.visit_step.new.links
+      c.visit_pairs.ensures.grown c.visit_step.ensures.here;
+  followed = c.visit_pairs.ensures.here;
+  none = c.visit_step.ensures.none;
+  all = tt;
+  failed = c.in-Some-visit_pairs.ensures.failed;
+}

@@ -16,18 +16,6 @@ watched-other-requires c =
     (partner_low c.args.kernel.now c.args.longs.now c.args.place c.args.step.now c.args.entries.now c.args.links.now c.requires.visiting c.args.node c.requires.first c.args.node
     (low c.args.kernel.now c.args.longs.now c.args.place c.args.step.now c.args.entries.now c.args.links.now c.requires.visiting c.args.node c.requires.first))
 
-pub returns-in-ForGood-clause-visiting : goal.returns-in-ForGood-clause-visiting
-returns-in-ForGood-clause-visiting c =
-    gone_then c.args.kernel.now c.args.longs.now c.args.place c.args.step.now c.args.entries.now c.args.links.now c.requires.visiting c.args.node c.requires.first c.requires.once
-    c.watched-other.result (c.watched-other.ensures.watched ∙ ap (λ (n : ℕ). watched_at c.args.links.now.watched n) c.partner_of.ensures) c.watched-other.result c.put.new.self
-    c.in_ok-put-in-ForGood.ensures.put refl (c.in-ForGood.ensures.good refl)
-
-pub returns-then-not-is_due-clause-visiting : goal.returns-then-not-is_due-clause-visiting
-returns-then-not-is_due-clause-visiting c =
-    passed_then c.args.kernel.now c.args.longs.now c.args.place c.args.step.now c.args.entries.now c.args.links.now c.requires.visiting c.args.node c.requires.first
-    c.watched-other.result (c.watched-other.ensures.watched ∙ ap (λ (n : ℕ). watched_at c.args.links.now.watched n) c.partner_of.ensures)
-    (c.in-Here.ensures.here refl) c.pass.new.self c.pass.ensures
-
 pub best_beside-watch-requires-clause-there : goal.best_beside-watch-requires-clause-there
 best_beside-watch-requires-clause-there c =
     subst (λ (l : Literal). Contains c.clause.result.now l)
@@ -58,32 +46,6 @@ put-requires-then-not-watch-clause-over c =
     (All-contains (λ (l : Literal). IsLiteralOver c.args.kernel.now.variables l) c.clause.result.now c.best_beside-watch.result.lit
     (all_over c.args.kernel.now.variables c.clause.result.now c.clause.ensures.over) c.best_beside-watch.ensures.member)
 
-pub returns-then-not-watch-clause-visiting : goal.returns-then-not-watch-clause-visiting
-returns-then-not-watch-clause-visiting c =
-    open_then c.args.kernel.now c.args.longs.now c.args.place c.args.step.now c.args.entries.now c.args.links.now c.requires.visiting c.args.node c.requires.first c.requires.once
-    c.watched-other.result (c.watched-other.ensures.watched ∙ ap (λ (n : ℕ). watched_at c.args.links.now.watched n) c.partner_of.ensures) c.best_beside-watch.result.lit
-    c.put-then-not-watch.new.self c.in_ok-put.ensures.put c.clause.result.now c.clause.ensures.clause c.best_beside-watch.ensures.member c.best_beside-watch.ensures.apart
-    (best_open c.args.entries.now.steps c.clause.result.now c.watched-other.result c.best_beside-watch.result.lit c.best_beside-watch.result.level
-    c.best_beside-watch.result.is_false (not_true c.best_beside-watch.result.is_false c.if-not-watch.true) c.best_beside-watch.ensures.best)
-
-pub returns-then-make_true-clause-visiting : goal.returns-then-make_true-clause-visiting
-returns-then-make_true-clause-visiting c =
-    let best = best_false c.args.entries.now.steps c.clause.result.now c.watched-other.result c.best_beside-watch.result.lit c.best_beside-watch.result.level
-    c.best_beside-watch.result.is_false (not_false c.best_beside-watch.result.is_false c.if-not-watch.false) c.best_beside-watch.ensures.best in
-    fallen_then c.args.kernel.now c.args.longs.now c.args.place c.args.step.now c.make_true.new.entries c.args.links.now
-    (visiting_then c.args.kernel.now c.args.longs.now c.args.place c.args.step.now c.args.entries.now c.args.links.now c.requires.visiting c.args.node c.requires.first
-    c.watched-other.result (c.watched-other.ensures.watched ∙ ap (λ (n : ℕ). watched_at c.args.links.now.watched n) c.partner_of.ensures) c.clause.result.now c.clause.ensures.clause
-    c.best_beside-watch.result.level (best.1) c.make_true.new.entries c.make_true.ensures.grown (c.make_true.ensures.sound c.args.kernel.now))
-    c.args.node c.requires.first c.requires.once c.watched-other.result
-    (c.watched-other.ensures.watched ∙ ap (λ (n : ℕ). watched_at c.args.links.now.watched n) c.partner_of.ensures) c.best_beside-watch.result.lit
-    c.put-then-make_true.new.self c.in_ok-put-2.ensures.put c.clause.result.now c.clause.ensures.clause c.best_beside-watch.ensures.member c.best_beside-watch.ensures.apart
-    c.best_beside-watch.result.level
-    (grown_at c.args.entries.now c.make_true.new.entries c.make_true.ensures.grown c.best_beside-watch.result.lit c.best_beside-watch.result.level (best.0))
-    (others_then c.args.kernel.now c.args.longs.now c.args.place c.args.step.now c.args.entries.now c.args.links.now c.requires.visiting c.args.node c.requires.first
-    c.watched-other.result (c.watched-other.ensures.watched ∙ ap (λ (n : ℕ). watched_at c.args.links.now.watched n) c.partner_of.ensures) c.clause.result.now c.clause.ensures.clause
-    c.best_beside-watch.result.level (best.1) c.make_true.new.entries c.make_true.ensures.grown (c.make_true.ensures.sound c.args.kernel.now))
-    (value_true c.make_true.new.entries.steps c.make_true.new.entries.level_count c.watched-other.result c.make_true.result c.if-make_true.true c.make_true.ensures.value)
-
 pub returns-in_err-put-2-clause-visiting : goal.returns-in_err-put-2-clause-visiting
 returns-in_err-put-2-clause-visiting c =
     let best = best_false c.args.entries.now.steps c.clause.result.now c.watched-other.result c.best_beside-watch.result.lit c.best_beside-watch.result.level
@@ -92,23 +54,6 @@ returns-in_err-put-2-clause-visiting c =
     (visiting_then c.args.kernel.now c.args.longs.now c.args.place c.args.step.now c.args.entries.now c.args.links.now c.requires.visiting c.args.node c.requires.first
     c.watched-other.result (c.watched-other.ensures.watched ∙ ap (λ (n : ℕ). watched_at c.args.links.now.watched n) c.partner_of.ensures) c.clause.result.now c.clause.ensures.clause
     c.best_beside-watch.result.level (best.1) c.make_true.new.entries c.make_true.ensures.grown (c.make_true.ensures.sound c.args.kernel.now))
-
-pub returns-clause-visiting : goal.returns-clause-visiting
-returns-clause-visiting c =
-    let best = best_false c.args.entries.now.steps c.clause.result.now c.watched-other.result c.best_beside-watch.result.lit c.best_beside-watch.result.level
-    c.best_beside-watch.result.is_false (not_false c.best_beside-watch.result.is_false c.if-not-watch.false) c.best_beside-watch.ensures.best in
-    visiting_then c.args.kernel.now c.args.longs.now c.args.place c.args.step.now c.args.entries.now c.args.links.now c.requires.visiting c.args.node c.requires.first
-    c.watched-other.result (c.watched-other.ensures.watched ∙ ap (λ (n : ℕ). watched_at c.args.links.now.watched n) c.partner_of.ensures) c.clause.result.now c.clause.ensures.clause
-    c.best_beside-watch.result.level (best.1) c.make_true.new.entries c.make_true.ensures.grown (c.make_true.ensures.sound c.args.kernel.now)
-
-pub returns-clause-failed : goal.returns-clause-failed
-returns-clause-failed c =
-    let best = best_false c.args.entries.now.steps c.clause.result.now c.watched-other.result c.best_beside-watch.result.lit c.best_beside-watch.result.level
-    c.best_beside-watch.result.is_false (not_false c.best_beside-watch.result.is_false c.if-not-watch.false) c.best_beside-watch.ensures.best in
-    failed_here c.args.kernel.now c.args.longs.now c.args.place c.args.step.now c.args.entries.now c.args.links.now c.requires.visiting c.args.node c.requires.first
-    c.watched-other.result (c.watched-other.ensures.watched ∙ ap (λ (n : ℕ). watched_at c.args.links.now.watched n) c.partner_of.ensures) c.clause.result.now c.clause.ensures.clause
-    c.best_beside-watch.result.level (best.1) c.make_true.new.entries c.make_true.ensures.grown (c.make_true.ensures.sound c.args.kernel.now)
-    (value_false c.make_true.new.entries.steps c.make_true.new.entries.level_count c.watched-other.result c.make_true.result c.if-make_true.false c.make_true.ensures.value)
 
 pub put-requires-clause-within : goal.put-requires-clause-within
 put-requires-clause-within c = low c.args.kernel.now c.args.longs.now c.args.place c.args.step.now c.args.entries.now c.args.links.now c.requires.visiting c.args.node c.requires.first
@@ -138,33 +83,6 @@ returns-in_err-put-clause-grown c = grown_none c.args.entries.now
 pub returns-in_err-put-in-ForGood-clause-grown : goal.returns-in_err-put-in-ForGood-clause-grown
 returns-in_err-put-in-ForGood-clause-grown c = grown_none c.args.entries.now
 
-pub returns-then-not-watch-clause-grown : goal.returns-then-not-watch-clause-grown
-returns-then-not-watch-clause-grown c = grown_none c.args.entries.now
-
-pub returns-then-not-is_due-clause-grown : goal.returns-then-not-is_due-clause-grown
-returns-then-not-is_due-clause-grown c = grown_none c.args.entries.now
-
-pub returns-in-ForGood-clause-grown : goal.returns-in-ForGood-clause-grown
-returns-in-ForGood-clause-grown c = grown_none c.args.entries.now
-
-pub returns-then-make_true-clause-grown : goal.returns-then-make_true-clause-grown
-returns-then-make_true-clause-grown c = c.make_true.ensures.grown
-
-pub returns-clause-grown : goal.returns-clause-grown
-returns-clause-grown c = c.make_true.ensures.grown
-
-pub returns-then-make_true-clause-fewer : goal.returns-then-make_true-clause-fewer
-returns-then-make_true-clause-fewer c = ap (λ (v : LinksView). v.ahead) c.in_ok-put-2.ensures.put
-
-pub returns-then-not-watch-clause-fewer : goal.returns-then-not-watch-clause-fewer
-returns-then-not-watch-clause-fewer c = ap (λ (v : LinksView). v.ahead) c.in_ok-put.ensures.put
-
-pub returns-in-ForGood-clause-fewer : goal.returns-in-ForGood-clause-fewer
-returns-in-ForGood-clause-fewer c = ap (λ (v : LinksView). v.ahead) c.in_ok-put-in-ForGood.ensures.put
-
-pub returns-then-not-is_due-clause-fewer : goal.returns-then-not-is_due-clause-fewer
-returns-then-not-is_due-clause-fewer c = ap (λ (v : LinksView). v.ahead) c.pass.ensures
-
 pub returns-in_err-put-clause-visiting : goal.returns-in_err-put-clause-visiting
 returns-in_err-put-clause-visiting c = subst (λ (v : LinksView). IsVisiting c.args.kernel.now c.args.longs.now c.args.place c.args.step.now c.args.entries.now v) (sym c.in_err-put.ensures.kept) c.requires.visiting
 
@@ -176,3 +94,80 @@ put-requires-then-make_true-clause-first c = c.requires.first
 
 pub put-requires-then-not-watch-clause-first : goal.put-requires-then-not-watch-clause-first
 put-requires-then-not-watch-clause-first c = c.requires.first
+
+pub returns-in-ForGood : goal.returns-in-ForGood
+returns-in-ForGood c = record {
+  visiting =
+      gone_then c.args.kernel.now c.args.longs.now c.args.place c.args.step.now c.args.entries.now c.args.links.now c.requires.visiting c.args.node c.requires.first c.requires.once
+      c.watched-other.result (c.watched-other.ensures.watched ∙ ap (λ (n : ℕ). watched_at c.args.links.now.watched n) c.partner_of.ensures) c.watched-other.result c.put.new.self
+      c.in_ok-put-in-ForGood.ensures.put refl (c.in-ForGood.ensures.good refl);
+  grown = grown_none c.args.entries.now;
+  fewer = ap (λ (v : LinksView). v.ahead) c.in_ok-put-in-ForGood.ensures.put;
+  failed = tt;
+}
+
+pub returns-then-not-is_due : goal.returns-then-not-is_due
+returns-then-not-is_due c = record {
+  visiting =
+      passed_then c.args.kernel.now c.args.longs.now c.args.place c.args.step.now c.args.entries.now c.args.links.now c.requires.visiting c.args.node c.requires.first
+      c.watched-other.result (c.watched-other.ensures.watched ∙ ap (λ (n : ℕ). watched_at c.args.links.now.watched n) c.partner_of.ensures)
+      (c.in-Here.ensures.here refl) c.pass.new.self c.pass.ensures;
+  grown = grown_none c.args.entries.now;
+  fewer = ap (λ (v : LinksView). v.ahead) c.pass.ensures;
+  failed = tt;
+}
+
+pub returns-then-not-watch : goal.returns-then-not-watch
+returns-then-not-watch c = record {
+  visiting =
+      open_then c.args.kernel.now c.args.longs.now c.args.place c.args.step.now c.args.entries.now c.args.links.now c.requires.visiting c.args.node c.requires.first c.requires.once
+      c.watched-other.result (c.watched-other.ensures.watched ∙ ap (λ (n : ℕ). watched_at c.args.links.now.watched n) c.partner_of.ensures) c.best_beside-watch.result.lit
+      c.put-then-not-watch.new.self c.in_ok-put.ensures.put c.clause.result.now c.clause.ensures.clause c.best_beside-watch.ensures.member c.best_beside-watch.ensures.apart
+      (best_open c.args.entries.now.steps c.clause.result.now c.watched-other.result c.best_beside-watch.result.lit c.best_beside-watch.result.level
+      c.best_beside-watch.result.is_false (not_true c.best_beside-watch.result.is_false c.if-not-watch.true) c.best_beside-watch.ensures.best);
+  grown = grown_none c.args.entries.now;
+  fewer = ap (λ (v : LinksView). v.ahead) c.in_ok-put.ensures.put;
+  failed = tt;
+}
+
+pub returns-then-make_true : goal.returns-then-make_true
+returns-then-make_true c = record {
+  visiting =
+      (let best = best_false c.args.entries.now.steps c.clause.result.now c.watched-other.result c.best_beside-watch.result.lit c.best_beside-watch.result.level
+      c.best_beside-watch.result.is_false (not_false c.best_beside-watch.result.is_false c.if-not-watch.false) c.best_beside-watch.ensures.best in
+      fallen_then c.args.kernel.now c.args.longs.now c.args.place c.args.step.now c.make_true.new.entries c.args.links.now
+      (visiting_then c.args.kernel.now c.args.longs.now c.args.place c.args.step.now c.args.entries.now c.args.links.now c.requires.visiting c.args.node c.requires.first
+      c.watched-other.result (c.watched-other.ensures.watched ∙ ap (λ (n : ℕ). watched_at c.args.links.now.watched n) c.partner_of.ensures) c.clause.result.now c.clause.ensures.clause
+      c.best_beside-watch.result.level (best.1) c.make_true.new.entries c.make_true.ensures.grown (c.make_true.ensures.sound c.args.kernel.now))
+      c.args.node c.requires.first c.requires.once c.watched-other.result
+      (c.watched-other.ensures.watched ∙ ap (λ (n : ℕ). watched_at c.args.links.now.watched n) c.partner_of.ensures) c.best_beside-watch.result.lit
+      c.put-then-make_true.new.self c.in_ok-put-2.ensures.put c.clause.result.now c.clause.ensures.clause c.best_beside-watch.ensures.member c.best_beside-watch.ensures.apart
+      c.best_beside-watch.result.level
+      (grown_at c.args.entries.now c.make_true.new.entries c.make_true.ensures.grown c.best_beside-watch.result.lit c.best_beside-watch.result.level (best.0))
+      (others_then c.args.kernel.now c.args.longs.now c.args.place c.args.step.now c.args.entries.now c.args.links.now c.requires.visiting c.args.node c.requires.first
+      c.watched-other.result (c.watched-other.ensures.watched ∙ ap (λ (n : ℕ). watched_at c.args.links.now.watched n) c.partner_of.ensures) c.clause.result.now c.clause.ensures.clause
+      c.best_beside-watch.result.level (best.1) c.make_true.new.entries c.make_true.ensures.grown (c.make_true.ensures.sound c.args.kernel.now))
+      (value_true c.make_true.new.entries.steps c.make_true.new.entries.level_count c.watched-other.result c.make_true.result c.if-make_true.true c.make_true.ensures.value));
+  grown = c.make_true.ensures.grown;
+  fewer = ap (λ (v : LinksView). v.ahead) c.in_ok-put-2.ensures.put;
+  failed = tt;
+}
+
+pub returns : goal.returns
+returns c = record {
+  visiting =
+      (let best = best_false c.args.entries.now.steps c.clause.result.now c.watched-other.result c.best_beside-watch.result.lit c.best_beside-watch.result.level
+      c.best_beside-watch.result.is_false (not_false c.best_beside-watch.result.is_false c.if-not-watch.false) c.best_beside-watch.ensures.best in
+      visiting_then c.args.kernel.now c.args.longs.now c.args.place c.args.step.now c.args.entries.now c.args.links.now c.requires.visiting c.args.node c.requires.first
+      c.watched-other.result (c.watched-other.ensures.watched ∙ ap (λ (n : ℕ). watched_at c.args.links.now.watched n) c.partner_of.ensures) c.clause.result.now c.clause.ensures.clause
+      c.best_beside-watch.result.level (best.1) c.make_true.new.entries c.make_true.ensures.grown (c.make_true.ensures.sound c.args.kernel.now));
+  grown = c.make_true.ensures.grown;
+  fewer = tt;
+  failed =
+      (let best = best_false c.args.entries.now.steps c.clause.result.now c.watched-other.result c.best_beside-watch.result.lit c.best_beside-watch.result.level
+      c.best_beside-watch.result.is_false (not_false c.best_beside-watch.result.is_false c.if-not-watch.false) c.best_beside-watch.ensures.best in
+      failed_here c.args.kernel.now c.args.longs.now c.args.place c.args.step.now c.args.entries.now c.args.links.now c.requires.visiting c.args.node c.requires.first
+      c.watched-other.result (c.watched-other.ensures.watched ∙ ap (λ (n : ℕ). watched_at c.args.links.now.watched n) c.partner_of.ensures) c.clause.result.now c.clause.ensures.clause
+      c.best_beside-watch.result.level (best.1) c.make_true.new.entries c.make_true.ensures.grown (c.make_true.ensures.sound c.args.kernel.now)
+      (value_false c.make_true.new.entries.steps c.make_true.new.entries.level_count c.watched-other.result c.make_true.result c.if-make_true.false c.make_true.ensures.value));
+}

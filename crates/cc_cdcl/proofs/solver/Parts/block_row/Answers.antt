@@ -1,9 +1,12 @@
-use Rattle.std.proofs.Common.{◌∙◌, ℕ, inl, inr, List, sym, ap, ap₂, arith, ◌+◌, ◌<◌, length, subst}
+use Rattle.std.proofs.Common.{◌∙◌, ℕ, inl, inr, List, refl, sym, ap, ap₂, arith, ◌+◌, ◌<◌, length, subst}
+use Rattle.cc_defs.specs.Clauses.{Literal}
 use Rattle.cc_defs.specs.Sections.{row_denial}
 use Rattle.cc_kernel.specs.Kernels.{KernelView, derived_count}
+use Rattle.cc_cdcl.specs.Solvers.{AddsBlock}
+use Rattle.cc_cdcl.proofs.Deriving.{on_err}
 use Rattle.cc_cdcl.proofs.Listing.{count_block, section_kept}
 use Rattle.cc_cdcl.proofs.Probing.{phase_back}
-use Rattle.cc_cdcl.proofs.Standing.{denial_is, denial_is_over, denial_is_failed, of_found, section_blocked, sizes_within, kernel_is}
+use Rattle.cc_cdcl.proofs.Standing.{denial_is, denial_is_over, denial_is_failed, of_found, section_blocked, sizes_is, sizes_within, kernel_is}
 use Rattle.cc_cdcl.proofs.solver.Parts.block_row.Goals as goal
 
 pub write_denial-requires-clause-sizes : goal.write_denial-requires-clause-sizes
@@ -74,3 +77,27 @@ block-requires-clause-few c = subst (λ (k : KernelView). length k.entries < 400
 
 pub returns-clause-number : goal.returns-clause-number
 returns-clause-number c = c.in_ok-number.ensures.number ∙ ap (λ (k : KernelView). length k.entries + 1) (kernel_is c.self.inside c.args.self.now c.self.view_is c.self.invariant)
+
+pub returns-in_err-number-clause-broken : goal.returns-in_err-number-clause-broken
+returns-in_err-number-clause-broken c =
+    let same = kernel_is c.self.inside c.args.self.now c.self.view_is c.self.invariant in
+    let sizes = sizes_is c.self.inside c.args.self.now c.self.view_is c.self.invariant in
+    let row = (of_found c.self.inside c.args.self.now c.self.view_is c.self.invariant c.requires.found.0 c.requires.found.1).2 in
+    let clause = c.deref-3.ensures.value ∙ c.in_ok-write_denial.ensures ∙ ap₂ (λ (ss rs : List ℕ). row_denial ss rs) (c.deref.ensures.value ∙ sizes) (c.deref-2.ensures.value ∙ sym row) in
+    on_err _ c.from_residual-in_err-number.result (elim c.in_err-number.ensures.broken [
+      | inl kept ↦ (
+        record { standing = refl; sizes = sizes },
+        kept.variables ∙ ap (λ (k : KernelView). k.variables) same,
+        inl (kept.entries ∙ ap (λ (k : KernelView). k.entries) same),
+      )
+      | inr adds ↦ (
+        record { standing = refl; sizes = sizes },
+        adds.variables ∙ ap (λ (k : KernelView). k.variables) same,
+        inr (
+          c.requires.found.0,
+          c.requires.found.1,
+          subst (λ (k : KernelView). AddsBlock k c.block.new.kernel (row_denial c.args.self.now.sizes c.requires.found.0)) same
+              (subst (λ (lits : List Literal). AddsBlock c.self.inside.kernel c.block.new.kernel lits) clause adds),
+        ),
+      )
+    ])

@@ -13,7 +13,7 @@ use Rattle.cc_cdcl.specs.Sets.{assignment_of}
 use Rattle.cc_cdcl.specs.Searches.{IsInPhase, IsSearching}
 use Rattle.cc_cdcl.specs.Solvers.{AddsDerived, axiom_clauses, HasPositions}
 use Rattle.cc_cdcl.proofs.Deriving.{on_err}
-use Rattle.cc_cdcl.proofs.Listing.{count_derived, empty_not_there, empty_there, few_derived, section_kept, found_not_spent, line_not_spent, refuted_not_spent}
+use Rattle.cc_cdcl.proofs.Listing.{count_derived, empty_not_there, empty_there, few_derived, section_kept, found_not_spent, line_not_spent, one_more, refuted_not_spent}
 use Rattle.cc_cdcl.proofs.Probing.{phase_back}
 use Rattle.cc_cdcl.proofs.Standing.{begun, counted_on, empty_added, kernel_is, least_there, row_room, row_there, row_written, running, section_learned, section_refuted, sizes_is, sizes_within, stuck, view_found, view_ready, went_on}
 use Rattle.cc_cdcl.proofs.solver.Parts.next.Goals as goal
@@ -154,7 +154,6 @@ invariant_of-self-in-Some c =
     let learns = c.in_ok-learn-in-Some.ensures.learned in
     let count : derived_count c.learn.new.kernel.entries ≡ derived_count c.self.inside.kernel.entries + 1 =
     ap derived_count learns.adds.entries ∙ count_derived c.self.inside.kernel.entries learns.clause in
-    let so_far = before.derived in
     let learned : IsInPhase c.search_on.new.probe.phase c.self.inside.sizes.items c.learn.new.kernel c.learn.new.trail (with_items c.self.inside.cursors c.search_on.new.cursors).items =
     phase_back c.search_on.new.probe.phase c.self.inside.sizes.items c.self.inside.kernel c.learn.new.kernel c.search_on.new.trail c.learn.new.trail
     (with_items c.self.inside.cursors c.search_on.new.cursors).items
@@ -167,7 +166,7 @@ invariant_of-self-in-Some c =
       section = section_learned c.self.inside.sizes.items c.self.inside.kernel c.learn.new.kernel c.self.invariant.section learns;
       room = c.self.invariant.room;
       stands = record {
-        derived = omega arith;
+        derived = ap (λ (n : ℕ). n + 1) before.derived ∙ sym count;
         in_phase = counted_on c.self.inside c.args.self.now c.self.view_is c.self.invariant c.requires.ready c.search_on.new.cursors c.learn.new.kernel learns.adds.variables
             c.count_line.new.probe.phase c.count_line.new.trail c.count_line.new.cursors
             (c.count_line.ensures c.self.inside.sizes.items c.learn.new.kernel
@@ -198,13 +197,12 @@ returns-in_ok-learn-in-Some-clause-step c =
     let learns = c.in_ok-learn-in-Some.ensures.learned in
     let count : derived_count c.learn.new.kernel.entries ≡ derived_count c.self.inside.kernel.entries + 1 =
     ap derived_count learns.adds.entries ∙ count_derived c.self.inside.kernel.entries learns.clause in
-    let equal : derived_count c.self.inside.kernel.entries ≡ derived_count c.args.self.now.kernel.entries = ap (λ (k : KernelView). derived_count k.entries) same in
-    let so_far = before.derived in let most = c.requires.budget in let more = c.if-self-budget.false in (
+    let equal : derived_count c.self.inside.kernel.entries ≡ derived_count c.args.self.now.kernel.entries = ap (λ (k : KernelView). derived_count k.entries) same in (
       learns.clause,
       learns.some,
       subst (λ (k : KernelView). AddsDerived k c.learn.new.kernel learns.clause) same learns.adds,
       subst (λ (k : KernelView). IsEarned (clauses_of k) learns.clause) same learns.earned,
-      omega arith,
+      one_more _ _ _ _ _ count equal before.derived c.requires.budget c.if-self-budget.false,
       sizes_is c.self.inside c.args.self.now c.self.view_is c.self.invariant,
       refl,
     )
@@ -277,3 +275,31 @@ overflow_add-self c =
     let apart = c.if-self-budget.false in
     let few = c.ranges.budget.fits in
     omega arith
+
+pub refute-requires-clause-opened : goal.refute-requires-clause-opened
+refute-requires-clause-opened c = c.search_on.ensures.phase.of_kernel.opened
+
+pub returns-then-is_some-clause-enough : goal.returns-then-is_some-clause-enough
+returns-then-is_some-clause-enough c = λ opens open_are most. refuted_not_spent
+
+pub invariant_of-self-in_err-failed : goal.invariant_of-self-in_err-failed
+invariant_of-self-in_err-failed c = record { section = c.self.invariant.section; room = c.self.invariant.room; stands = tt }
+
+pub returns-in_err-failed-clause-broken : goal.returns-in_err-failed-clause-broken
+returns-in_err-failed-clause-broken c =
+    let same = kernel_is c.self.inside c.args.self.now c.self.view_is c.self.invariant in
+    on_err _ c.from_residual-in_err-failed.result (
+      record { standing = refl; sizes = sizes_is c.self.inside c.args.self.now c.self.view_is c.self.invariant },
+      ap (λ (k : KernelView). k.variables) same,
+      inl (ap (λ (k : KernelView). k.entries) same),
+    )
+
+pub returns-in_err-refute-in-Some-clause-broken : goal.returns-in_err-refute-in-Some-clause-broken
+returns-in_err-refute-in-Some-clause-broken c =
+    let same = kernel_is c.self.inside c.args.self.now c.self.view_is c.self.invariant in
+    let kept = c.in_err-refute-in-Some.ensures.kept in
+    on_err _ c.from_residual-in_err-refute-in-Some.result (
+      record { standing = refl; sizes = sizes_is c.self.inside c.args.self.now c.self.view_is c.self.invariant },
+      kept.variables ∙ ap (λ (k : KernelView). k.variables) same,
+      inl (kept.entries ∙ ap (λ (k : KernelView). k.entries) same),
+    )

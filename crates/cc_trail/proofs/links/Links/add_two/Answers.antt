@@ -1,16 +1,26 @@
 use Rattle.std.proofs.Common.{◌≡◌, ◌∙◌, ◌+◌, List, [], ◌∷◌, ◌++◌, length, sym, subst, ap, arith, ℕ, append_assoc}
 use Rattle.cc_defs.specs.Clauses.{Literal, IsLiteralOver}
 use Rattle.cc_trail.specs.Links.{LinksView}
-use Rattle.cc_trail.proofs.Linked.{links_added, code_within}
+use Rattle.cc_trail.proofs.Codes.{code_injective}
+use Rattle.cc_trail.proofs.Linked.{links_added, code_within, pushed, pushed_len}
 use Rattle.cc_trail.proofs.links.Links.add_two.Goals as goal
+
+watched_is : (c : goal.After-self-2-1) → c.push-2.new.self.items ≡ (c.self.inside.watched.items ++ c.args.a ∷ []) ++ c.args.b ∷ []
+watched_is c =
+    let room = c.in_ok-reserve.ensures.ok in
+    let first_ok = c.push.ensures.succeeds (omega arith) in
+    let longer = pushed_len c.push.result _ _ c.push.ensures.len first_ok in
+    let wide = c.push.ensures.capacity in
+    pushed c.push-2.result c.push.new.self.items c.push-2.new.self.items c.args.b c.push-2.ensures.items (c.push-2.ensures.succeeds (omega arith))
+    ∙ ap (λ (literals : List Literal). literals ++ c.args.b ∷ [])
+    (pushed c.push.result c.reserve.new.self.items c.push.new.self.items c.args.a c.push.ensures.items first_ok
+    ∙ ap (λ (literals : List Literal). literals ++ c.args.a ∷ []) c.reserve.ensures.items)
 
 pub invariant_of-self-2 : goal.invariant_of-self-2
 invariant_of-self-2 c =
     let inside = c.self.inside in
     let one_is : c.len-count.result ≡ length inside.watched.items = omega (arith, c.len-count.ensures, inside.watched.ok.0) in
-    let watched_is = c.in_ok-push-2.ensures.items ∙ ap (λ (literals : List Literal). literals ++ c.args.b ∷ [])
-    (c.in_ok-push.ensures.items ∙ ap (λ (literals : List Literal). literals ++ c.args.a ∷ []) c.reserve.ensures.items) in
-    rw (c.in_ok-push_two.ensures.pushed, watched_is)
+    rw (c.in_ok-push_two.ensures.pushed, watched_is c)
     (links_added inside.variables inside.lists inside.watched.items inside.walked inside.ahead c.self.invariant c.args.a c.args.b
     (subst (λ (v : LinksView). IsLiteralOver v.variables c.args.a) (sym c.self.view_is) c.requires.a_over)
     (subst (λ (v : LinksView). IsLiteralOver v.variables c.args.b) (sym c.self.view_is) c.requires.b_over)
@@ -31,18 +41,9 @@ push_two-requires-clause-second c = code_within c.self.inside.lists c.self.insid
 
 pub returns-clause-added : goal.returns-clause-added
 returns-clause-added c =
-    let watched_is = c.in_ok-push-2.ensures.items ∙ ap (λ (literals : List Literal). literals ++ c.args.b ∷ [])
-    (c.in_ok-push.ensures.items ∙ ap (λ (literals : List Literal). literals ++ c.args.a ∷ []) c.reserve.ensures.items) ∙ append_assoc c.self.inside.watched.items (c.args.a ∷ []) (c.args.b ∷ []) in
-    ap (λ (literals : List Literal). let w : LinksView = record { variables = c.self.inside.variables; watched = literals; ahead = [] } in w) watched_is
+    ap (λ (literals : List Literal). let w : LinksView = record { variables = c.self.inside.variables; watched = literals; ahead = [] } in w) (watched_is c ∙ append_assoc c.self.inside.watched.items (c.args.a ∷ []) (c.args.b ∷ []))
     ∙ ap (λ (v : LinksView). let w : LinksView = record v { watched = v.watched ++ c.args.a ∷ c.args.b ∷ []; ahead = [] } in w) c.self.view_is
     ∙ ap (λ (ns : List ℕ). let w : LinksView = record c.args.self.now { watched = c.args.self.now.watched ++ c.args.a ∷ c.args.b ∷ []; ahead = ns } in w) (sym c.requires.none)
 
-pub invariant_of-self-in_err-push : goal.invariant_of-self-in_err-push
-invariant_of-self-in_err-push c = absurd (let room = c.in_ok-reserve.ensures.ok in let long = c.reserve.ensures.len in let full = c.in_err-push.ensures.full in omega arith)
-
-pub invariant_of-self-in_err-push-2 : goal.invariant_of-self-in_err-push-2
-invariant_of-self-in_err-push-2 c =
-    let room = c.in_ok-reserve.ensures.ok in
-    let longer = c.in_ok-push.ensures.capacity in
-    let full = c.in_err-push-2.ensures.full in
-    absurd (omega (arith, c.in_ok-push.ensures.len, c.reserve.ensures.len))
+pub push_two-requires-clause-apart : goal.push_two-requires-clause-apart
+push_two-requires-clause-apart c same = c.requires.apart (code_injective c.args.a c.args.b (sym c.code.ensures ∙ same ∙ c.code-2.ensures))

@@ -66,3 +66,16 @@ attach_pair-requires-clause-first c = (subst (λ (l : Literal). IsLiteralOver c.
 
 pub attach_pair-requires-clause-second : goal.attach_pair-requires-clause-second
 attach_pair-requires-clause-second c = (subst (λ (l : Literal). IsLiteralOver c.args.self.now.variables l) (sym c.index-clause-1.is) (rw c.requires.fits.variables (all_over c.args.kernel.now.variables c.clause-clause.result.now c.clause-clause.ensures.over 1 c.index-clause-1.result (let long = c.if-clause-lt2.false in omega arith))))
+
+pub attach_pair-requires-clause-apart : goal.attach_pair-requires-clause-apart
+attach_pair-requires-clause-apart c e =
+    first_two c.clause-clause.result.now c.index-clause-0.result c.index-clause-1.result c.index-clause-0.result c.index-clause-1.result c.clause-clause.ensures.is_clause
+    c.if-clause-lt2.false c.index-clause-0.is c.index-clause-1.is (sym e)
+
+pub attach_long-requires-clause-next : goal.attach_long-requires-clause-next
+attach_long-requires-clause-next c =
+    let same : c.else-clause-eq2.self ≡ c.args.self.now = elim c.else-clause-eq2.branch [
+      | else-clause-eq2-via-then-clause-eq2+else-attach_pair w ↦ w.self-is ∙ w.attach_pair.ensures.kept w.if-attach_pair.false
+      | else-clause-eq2-via-else-clause-eq2 w ↦ w.self-is
+    ] in
+    c.requires.next ∙ ap (λ (v : TrailView). v.attached + 1) (sym same)

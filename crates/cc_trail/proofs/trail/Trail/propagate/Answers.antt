@@ -98,3 +98,11 @@ visit_steps-requires-clause-paired c = subst (λ (v : TrailView). ArePaired (cla
 
 pub returns-clause-settled : goal.returns-clause-settled
 returns-clause-settled c = c.visit_steps.ensures.sound.settled
+
+pub returns-in-Some-clause-propagated : goal.returns-in-Some-clause-propagated
+returns-in-Some-clause-propagated c =
+    let grown = c.make_shorts.ensures.grown in
+    rw (← c.self.view_is) (record { more = grown.more; steps = grown.steps; each = grown.each; variables = grown.variables; level_count = grown.level_count; attached = refl })
+
+pub returns-in-Some-clause-settled : goal.returns-in-Some-clause-settled
+returns-in-Some-clause-settled c = c.make_shorts.ensures.sound.settled
