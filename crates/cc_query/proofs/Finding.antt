@@ -9,11 +9,11 @@ use Rattle.cc_cdcl.specs.declared.solver.Step.TheVariants as answers
 use Rattle.cc_clauses.specs.RowsOf.{IsLeastRowOf, IsRowOf}
 use Rattle.cc_defs.specs.declared.log.EndWord.{EndWord}
 use Rattle.cc_defs.specs.declared.log.EndWord.TheVariants as words
-use Rattle.cc_defs.specs.declared.log.LogLine.{LogLine}
 use Rattle.cc_defs.specs.declared.log.LogLine.TheVariants as lines
 use Rattle.cc_defs.specs.declared.refusal.Fault.{Fault}
 use Rattle.cc_defs.specs.declared.refusal.Fault.TheVariants as faults
 use Rattle.cc_defs.specs.declared.refusal.LimitAt.TheVariants as limits
+use Rattle.cc_defs.specs.declared.refusal.OutOfMemory.{OutOfMemory}
 use Rattle.cc_defs.specs.Assignments.{IsEarned}
 use Rattle.cc_defs.specs.Clauses.{Literal, IsNumbered}
 use Rattle.cc_defs.specs.Histories.{AreFirstOf}
@@ -22,7 +22,7 @@ use Rattle.cc_defs.specs.Refusals.{past}
 use Rattle.cc_defs.specs.Runs.{Step, Derive, Tell, Section, TellsRows, counted, counted_in, rows_of}
 use Rattle.cc_defs.specs.Sections.{Axioms, HasNoEmpty, row_denial}
 use Rattle.cc_kernel.specs.declared.kernel.Origin.TheVariants as origins
-use Rattle.cc_kernel.specs.Kernels.{KernelView, added, axioms_of, clauses_of, derived_count}
+use Rattle.cc_kernel.specs.Kernels.{added, axioms_of, clauses_of, derived_count}
 use Rattle.cc_query.specs.declared.phase.Part.TheVariants as parts
 use Rattle.cc_query.specs.declared.stage.Find.{Find}
 use Rattle.cc_query.specs.declared.stage.Find.TheVariants as finds
@@ -543,11 +543,11 @@ ready_taken now mid taken given mid_is given_is ready =
     subst (λ (s : SearchView). IsReady s.ask given) (sym mid_is) (subst (λ (g : Stage). IsReady now.ask g) given_is ready)
 
 -- what the solver answered, by the budget that is asked
-pub answer_at : (budget : ℕ) (v now : SearchView) (old new : SolverView) (given answer : Answer) → budget ≡ v.ask.budget → v ≡ now → given ≡ answer →
-    IsStep budget old new given → IsStep now.ask.budget old new answer
-answer_at budget v now old new given answer budget_is same answer_is step =
+pub answer_at : (budget : ℕ) (v now : SearchView) (old new : SolverView) (r : Result Answer OutOfMemory) (answer : Answer) → budget ≡ v.ask.budget → v ≡ now →
+    r ≡ Ok answer → IfOk r (λ step. IsStep budget old new step) → IsStep now.ask.budget old new answer
+answer_at budget v now old new r answer budget_is same answer_is step =
     subst (λ (n : ℕ). IsStep n old new answer) (budget_is ∙ ap (λ (s : SearchView). s.ask.budget) same)
-    (subst (λ (a : Answer). IsStep budget old new a) answer_is step)
+    (subst (λ (given : Result Answer OutOfMemory). IfOk given (λ step. IsStep budget old new step)) answer_is step)
 
 -- ---- a search that begins
 
@@ -577,19 +577,6 @@ pub next_tells : (r : Result Find Fault) (old new : SearchView) (axioms : Axioms
     Stands axioms count budget old section → IfOk r (λ find. IsBehind section find × Stands axioms count budget new (found_behind section new.row find))
 next_tells (Err fault) old new axioms count budget section gives stands = tt
 next_tells (Ok find) old new axioms count budget section gives stands = gives.tells axioms count budget section stands
-
--- the line of a clause, where the kernel was read
-pub line_of_kernel : (line : LogLine) (read kernel : KernelView) (clause : List Literal) → read ≡ kernel →
-    ((given : List Literal) → IsNumbered (clauses_of read) (length read.entries) given → line ≡ lines.Derived given read.chain) →
-    IsNumbered (clauses_of kernel) (length kernel.entries) clause → finds.Line line ≡ finds.Line (lines.Derived clause kernel.chain)
-line_of_kernel line read kernel clause same told is =
-    ap (λ (l : LogLine). finds.Line l) (told clause (subst (λ (k : KernelView). IsNumbered (clauses_of k) (length k.entries) clause) (sym same) is)
-    ∙ ap (λ (k : KernelView). lines.Derived clause k.chain) same)
-
--- the row that was copied
-pub block_line : (solver : SolverView) (copied row items : List ℕ) → solver.standing ≡ Found items → copied ≡ items → solver.standing ≡ Found row →
-    finds.Line (lines.Block copied) ≡ finds.Line (lines.Block row)
-block_line solver copied row items here same there = let one : items ≡ row = cc in ap (λ (l : List ℕ). finds.Line (lines.Block l)) (same ∙ one)
 
 pub search_at_first : (count : Option ℕ) (budget many : ℕ) (row : List ℕ) (solver : SolverView) (form : Axioms) → budget ≤ 2000000 → solver.standing ≡ Ready →
     AreGoodAxioms form → solver.sizes ≡ form.sizes → solver.kernel.variables ≡ form.variables → form.variables ≤ 4000000 →

@@ -1,7 +1,7 @@
 -- What the calls of a session join to.
 use Rattle.std.proofs.Common.{◌≡◌, ◌≢◌, ◌∙◌, ℕ, ◌+◌, ◌<◌, ◌≤◌, ◌⊎◌, inl, inr, true, List, [], ◌∷◌, ◌++◌, length, map, Option, Some, None, Result, Ok, Err, refl, sym, subst, ap, arith}
-use Rattle.std.specs.Prelude.{IfOk, IfErr, OnErr, OnOk, IsSome, Contains}
-use Rattle.std.specs.Result.{IsErrAnd}
+use Rattle.std.specs.Prelude.{IfOk, IfErr, IsOk, OnErr, OnOk, IsSome, Contains}
+use Rattle.std.proofs.lemmas.Bool.{false≢true}
 use Rattle.std.proofs.lemmas.List.{length_push}
 use Rattle.cc_cdcl.specs.Solvers.{SolverView, Found, Ready, AddsDerived, IsStep}
 use Rattle.cc_cdcl.specs.declared.solver.Step.{Step}
@@ -18,10 +18,12 @@ use Rattle.cc_theory.specs.Theories.{AreLawsOf}
 use Rattle.cc_defs.specs.declared.event.Event.{Event}
 use Rattle.cc_defs.specs.declared.event.Event.TheVariants as events
 use Rattle.cc_defs.specs.declared.log.EndWord.TheVariants as words
+use Rattle.cc_defs.specs.declared.log.LogLine.{LogLine}
 use Rattle.cc_defs.specs.declared.log.LogLine.TheVariants as lines
 use Rattle.cc_defs.specs.declared.refusal.Fault.{Fault}
 use Rattle.cc_defs.specs.declared.refusal.Fault.TheVariants as faults
 use Rattle.cc_defs.specs.declared.refusal.LimitAt.TheVariants as limits
+use Rattle.cc_defs.specs.declared.refusal.OutOfMemory.{OutOfMemory}
 use Rattle.cc_defs.specs.Clauses.{Literal, IsNumbered}
 use Rattle.cc_defs.specs.Description.{Description}
 use Rattle.cc_defs.specs.Refusals.{IsRefusedBy, past}
@@ -52,7 +54,48 @@ gives_at s new expected event given new_is event_is gives =
 pub askable_of : (v now : SessionView) → v ≡ now → IsSession v → IsAskable now.signature now.laws now.query now.ask
 askable_of v now same is = (subst (λ (s : SessionView). IsSession s) same is).askable
 
+-- ---- lines
+
+-- what is told of a line that was made
+pub told_line : {E : Type 0} (f : LogLine → E) (r : Result E Fault) (line : Result LogLine OutOfMemory) (x : LogLine) →
+    IfOk r (λ told. (made : LogLine) × (line ≡ Ok made) × (told ≡ f made)) → IfOk line (λ made. made ≡ x) → IfOk r (λ told. told ≡ f x)
+told_line f (Err fault) line x told is = tt
+told_line f (Ok event) line x (made, made_is, event_is) is =
+    event_is ∙ ap f (subst (λ (l : Result LogLine OutOfMemory). IfOk l (λ given. given ≡ x)) made_is is)
+
+pub told_on : {E : Type 0} (P : Type 0) (f : LogLine → E) (r : Result E Fault) (line : Result LogLine OutOfMemory) →
+    IfOk r (λ told. (made : LogLine) × (line ≡ Ok made) × (told ≡ f made)) → OnOk line P → OnOk r P
+told_on P f (Err fault) line told is = tt
+told_on P f (Ok event) line (made, made_is, event_is) is = subst (λ (l : Result LogLine OutOfMemory). OnOk l P) made_is is
+
+-- of a derived line, read from a kernel
+pub derived_told : {E : Type 0} (f : LogLine → E) (r : Result E Fault) (line : Result LogLine OutOfMemory) (read kernel : KernelView) → read ≡ kernel →
+    IfOk r (λ told. (made : LogLine) × (line ≡ Ok made) × (told ≡ f made)) →
+    ((given : List Literal) → IsNumbered (clauses_of read) (length read.entries) given → IfOk line (λ made. made ≡ lines.Derived given read.chain)) →
+    (clause : List Literal) → IsNumbered (clauses_of kernel) (length kernel.entries) clause → IfOk r (λ told. told ≡ f (lines.Derived clause kernel.chain))
+derived_told f r line read kernel same told derived clause is =
+    subst (λ (k : KernelView). IfOk r (λ told. told ≡ f (lines.Derived clause k.chain))) same
+    (told_line f r line (lines.Derived clause read.chain) told
+    (derived clause (subst (λ (k : KernelView). IsNumbered (clauses_of k) (length k.entries) clause) (sym same) is)))
+
+pub on_each : {T E P Q : Type 0} (r : Result T E) → (P → Q) → OnOk r P → OnOk r Q
+on_each (Ok value) more is = more is
+on_each (Err error) more is = tt
+
+pub on_both : {T E P Q R : Type 0} (r : Result T E) → (P → Q → R) → OnOk r P → OnOk r Q → OnOk r R
+on_both (Ok value) more one two = more one two
+on_both (Err error) more one two = tt
+
 -- ---- denying
+
+-- the line of a denial was made, so the row was denied
+pub on_denied : (P : Type 0) (line : Result LogLine OutOfMemory) (denied : Result ℕ OutOfMemory) → OnOk line (IsOk denied) → OnOk denied P → OnOk line P
+on_denied P (Err error) denied ok is = tt
+on_denied P (Ok made) (Ok number) ok is = is
+on_denied P (Ok made) (Err error) ok is = absurd (false≢true ok)
+
+pub found_one : (solver : SolverView) (items row : List ℕ) → solver.standing ≡ Found items → solver.standing ≡ Found row → items ≡ row
+found_one solver items row here there = cc
 
 pub blocked_is : (old new : SolverView) → HasFound old →
     ((row : List ℕ) → old.standing ≡ Found row → new ≡ record old { kernel = added old.kernel (row_denial old.sizes row) origins.Block; standing = Ready }) → IsBlocked old new
@@ -83,11 +126,6 @@ block_gives laws (Ok given) now new solver listed askable other event (blocked, 
     (events.Log (lines.Block found.0)) new_is (event found.0 found.1)
     (gives_block laws (record now { phase = phases.Denying solver listed }) askable solver blocked listed within.0 refl other is.sizes is.kernel found within.3)
 
--- the row that was copied
-pub block_event : (solver : SolverView) (copied : List ℕ) (row items : List ℕ) → solver.standing ≡ Found items → copied ≡ items → solver.standing ≡ Found row →
-    events.Log (lines.Block copied) ≡ events.Log (lines.Block row)
-block_event solver copied row items here same there = let one : items ≡ row = cc in ap (λ (l : List ℕ). events.Log (lines.Block l)) (same ∙ one)
-
 -- ---- opening
 
 fault_of : {S : Type 0} (r : Result S Fault) (s : SessionView) (part : Part) → opens_at s.phase ≡ Some part → s.horizon ≤ last_at s.query s.ask.after →
@@ -96,10 +134,9 @@ fault_of (Ok value) s part opens low refused = tt
 fault_of (Err faults.OutOfMemory) s part opens low refused = tt
 fault_of (Err (faults.Refused refusal)) s part opens low refused = λ d q given of after. inl (part, opens, low, refused d q of)
 
-pub opening_fault : {S T : Type 0} (r : Result S Fault) (out : Result T Fault) (fault : Fault) (s : SessionView) (part : Part) → opens_at s.phase ≡ Some part → s.horizon ≤ last_at s.query s.ask.after →
-    r ≡ Err fault → IsErrAnd out (λ given. given ≡ fault) →
-    ((d : Description) (q : Query) → IsSessionOf s d q → IfErr r (IsRefusedBy (opening_refusal d q s.ask s.horizon (is_conditions part)))) → IfErr out (IsRightFault s)
-opening_fault r out fault s part opens low was is refused = handed_on r out fault (IsRightFault s) was is (fault_of r s part opens low refused)
+pub opening_fault : {S : Type 0} (r : Result S Fault) (fault : Fault) (s : SessionView) (part : Part) → opens_at s.phase ≡ Some part → s.horizon ≤ last_at s.query s.ask.after →
+    r ≡ Err fault → ((d : Description) (q : Query) → IsSessionOf s d q → IfErr r (IsRefusedBy (opening_refusal d q s.ask s.horizon (is_conditions part)))) → IsRightFault s fault
+opening_fault r fault s part opens low was refused = handed_on r fault (IsRightFault s) was (fault_of r s part opens low refused)
 
 -- it is within the range, where it is not past it
 pub low_at : (v now : SessionView) (last : ℕ) → v ≡ now → last ≡ last_at v.query v.ask.after → v.horizon ≤ last → now.horizon ≤ last_at now.query now.ask.after
@@ -277,6 +314,10 @@ complete_some laws v now listed same is over some =
     (gives_complete laws (record now { phase = phases.Closed parts.Histories words.Empty listed }) (askable_of v now same is) listed refl
     (subst (λ (s : SessionView). (0 < listed) ⊎ IsSome s.ask.after) same some))
 
+pub complete_at : (now new : SessionView) (event : Event) (part : Part) (listed : ℕ) → part ≡ parts.Histories →
+    Gives (record now { phase = phases.Closed parts.Histories words.Empty listed }) new event → Gives (record now { phase = phases.Closed part words.Empty listed }) new event
+complete_at now new event part listed is gives = subst (λ (p : Part). Gives (record now { phase = phases.Closed p words.Empty listed }) new event) (sym is) gives
+
 pub conditions_none : (laws : SearchLaws) (v now new : SessionView) (part : Part) (listed : ℕ) → v ≡ now → IsSession v → part ≡ parts.Conditions →
     now.horizon ≤ last_at now.query now.ask.after →
     new ≡ record now { horizon = now.horizon + 1; met = v.met; phase = phases.Opening parts.Conditions } →
@@ -371,11 +412,11 @@ search_spent laws now new event old solver part listed askable (kept, all, none,
     (gives_spent laws (record now { phase = phases.Searching part old listed }) askable part old listed refl all none)
 
 -- what the solver answered, by the budget that is asked
-pub step_at : (budget : ℕ) (v now : SessionView) (old new : SolverView) (given answer : Step) → budget ≡ v.ask.budget → v ≡ now → given ≡ answer →
-    IsStep budget old new given → IsStep now.ask.budget old new answer
-step_at budget v now old new given answer budget_is same answer_is step =
+pub step_at : (budget : ℕ) (v now : SessionView) (old new : SolverView) (r : Result Step OutOfMemory) (answer : Step) → budget ≡ v.ask.budget → v ≡ now →
+    r ≡ Ok answer → IfOk r (λ step. IsStep budget old new step) → IsStep now.ask.budget old new answer
+step_at budget v now old new r answer budget_is same answer_is step =
     subst (λ (n : ℕ). IsStep n old new answer) (budget_is ∙ ap (λ (s : SessionView). s.ask.budget) same)
-    (subst (λ (a : Step). IsStep budget old new a) answer_is step)
+    (subst (λ (given : Result Step OutOfMemory). IfOk given (λ step. IsStep budget old new step)) answer_is step)
 
 pub each_ok : {X E : Type 0} {P Q : X → Type 0} (r : Result X E) → ((x : X) → P x → Q x) → IfOk r P → IfOk r Q
 each_ok (Ok x) more is = more x is

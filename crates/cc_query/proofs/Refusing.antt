@@ -1,6 +1,5 @@
 -- Which limit refuses a section that opens.
-use Rattle.std.proofs.Common.{◌≡◌, ℕ, ◌≤◌, Bool, Option, Some, None, Result, Ok, Err, length, sym, subst, arith}
-use Rattle.std.specs.Result.{IsErrAnd}
+use Rattle.std.proofs.Common.{◌≡◌, ℕ, ◌≤◌, Bool, Option, Some, None, Result, Err, length, sym, subst, arith}
 use Rattle.std.specs.Prelude.{IfErr, nat_lt, not, if◌then◌else◌}
 use Rattle.std.specs.Option.{option_or}
 use Rattle.std.proofs.lemmas.Bool.Decides.{nat_tests}
@@ -28,17 +27,15 @@ pub refused_behind : {T : Type 0} (r : Result T Fault) (rules form : Option Refu
 refused_behind r rules form none is = subst (λ (o : Option Refusal). IfErr r (IsRefusedBy (option_or o form))) (sym none) is
 
 -- what is said of an error that is handed on
-pub handed_on : {S T : Type 0} (r : Result S Fault) (s : Result T Fault) (fault : Fault) (P : Fault → Type 0) → r ≡ Err fault →
-    IsErrAnd s (λ given. given ≡ fault) → IfErr r P → IfErr s P
-handed_on r (Err given) fault P was is holds = subst P (sym is) (subst (λ (x : Result _ Fault). IfErr x P) was holds)
-handed_on r (Ok value) fault P was is holds = tt
+pub handed_on : {S : Type 0} (r : Result S Fault) (fault : Fault) (P : Fault → Type 0) → r ≡ Err fault → IfErr r P → P fault
+handed_on r fault P was holds = subst (λ (x : Result _ Fault). IfErr x P) was holds
 
 -- what the clauses of a section refuse is what its opening refuses
-pub opening_refused : {S T : Type 0} (r : Result S Fault) (out : Result T Fault) (fault : Fault) (d : Description) (q : Query) (s now : SessionView) (part : Part)
-    (denies : Bool) (key : Option Key) → s ≡ now → denies ≡ not (is_conditions part) → key ≡ s.ask.after → r ≡ Err fault → IsErrAnd out (λ given. given ≡ fault) →
-    IfErr r (IsRefusedBy (refusal_at d q s.horizon denies key)) → IfErr out (IsRefusedBy (opening_refusal d q now.ask now.horizon (is_conditions part)))
-opening_refused r out fault d q s now part denies key same denies_is key_is was is refused =
-    subst (λ (v : SessionView). IfErr out (IsRefusedBy (opening_refusal d q v.ask v.horizon (is_conditions part)))) same
-    (handed_on r out fault (λ (f : Fault). IsRefusedBy (opening_refusal d q s.ask s.horizon (is_conditions part)) f) was is
+pub opening_refused : {S : Type 0} (r : Result S Fault) (fault : Fault) (d : Description) (q : Query) (s now : SessionView) (part : Part)
+    (denies : Bool) (key : Option Key) → s ≡ now → denies ≡ not (is_conditions part) → key ≡ s.ask.after → r ≡ Err fault →
+    IfErr r (IsRefusedBy (refusal_at d q s.horizon denies key)) → IsRefusedBy (opening_refusal d q now.ask now.horizon (is_conditions part)) fault
+opening_refused r fault d q s now part denies key same denies_is key_is was refused =
+    subst (λ (v : SessionView). IsRefusedBy (opening_refusal d q v.ask v.horizon (is_conditions part)) fault) same
+    (handed_on r fault (λ (f : Fault). IsRefusedBy (opening_refusal d q s.ask s.horizon (is_conditions part)) f) was
     (subst (λ (k : Option Key). IfErr r (IsRefusedBy (refusal_at d q s.horizon (not (is_conditions part)) k))) key_is
     (subst (λ (b : Bool). IfErr r (IsRefusedBy (refusal_at d q s.horizon b key))) denies_is refused)))

@@ -14,7 +14,6 @@ use Rattle.cc_defs.specs.Rows.{IsRow}
 use Rattle.cc_defs.specs.Runs.{Ask}
 use Rattle.cc_defs.specs.Sections.{Axioms, denial_from}
 use Rattle.cc_defs.specs.Signatures.{Signature}
-use Rattle.cc_form.specs.Forms.{IsAxioms}
 use Rattle.cc_kernel.specs.Kernels.{Entry, KernelView, clauses_of}
 use Rattle.cc_query.specs.Accepted.{AreGoodAxioms}
 use Rattle.cc_query.specs.Sessions.{Fits, IsWithin, last_at}
@@ -156,15 +155,11 @@ each_of : {X : Type 0} (P : X → Type 0) (xs : List X) → All P xs → AllByRe
 each_of P [] all = tt
 each_of P (x ∷ xs) all = (All-head P x xs all, each_of P xs (All-tail P x xs all))
 
-good_of : (axioms : Axioms) → IsAxioms axioms → AreGoodAxioms axioms
-good_of axioms is =
-    let least = is.least in
-    record {
-      clauses = each_of IsClause axioms.clauses is.each;
-      over = each_of (IsOver axioms.variables) axioms.clauses is.over;
-      positions = omega arith;
-    }
-
-pub good_axioms : {S E : Type 0} (r : Result S E) (axioms now : Axioms) → axioms ≡ now → IsAxioms axioms → OnOk r (AreGoodAxioms now)
-good_axioms (Ok value) axioms now same is = subst AreGoodAxioms same (good_of axioms is)
-good_axioms (Err error) axioms now same is = tt
+pub good_axioms : {S E : Type 0} (r : Result S E) (form : Axioms) (clauses : List (List Literal)) (variables : ℕ) → clauses ≡ form.clauses →
+    variables ≡ form.variables → All IsClause clauses → All (IsOver form.variables) clauses → sum form.sizes + 1 ≤ variables → OnOk r (AreGoodAxioms form)
+good_axioms (Ok value) form clauses variables clauses_are variables_are each over least = record {
+  clauses = subst (λ (l : List (List Literal)). AllByRecursion IsClause l) clauses_are (each_of IsClause clauses each);
+  over = subst (λ (l : List (List Literal)). AllByRecursion (IsOver form.variables) l) clauses_are (each_of (IsOver form.variables) clauses over);
+  positions = omega arith;
+}
+good_axioms (Err error) form clauses variables clauses_are variables_are each over least = tt

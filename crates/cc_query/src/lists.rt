@@ -58,11 +58,16 @@ impl<'a> Lists<'a> {
     pub(crate) fn prepare(&mut self, alloc: Global, horizon: u32) -> Result<(), OutOfMemory>
         ensures { self.new ≡ self.old }
     {
-        if horizon >= 2 && self.template.is_none() {
-            let template = Template::new(alloc, self.sig, self.laws)?;
-            drop(replace(&mut self.template, Some(template)));
+        if horizon < 2 || self.template.is_some() {
+            return Ok(());
         }
-        Ok(())
+        match Template::new(alloc, self.sig, self.laws) {
+            Ok(template) => {
+                drop(replace(&mut self.template, Some(template)));
+                Ok(())
+            }
+            Err(error) => Err(error),
+        }
     }
 
     /// The clauses of a section at a horizon. Refuses the first limit that its rules or clauses pass.

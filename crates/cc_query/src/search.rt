@@ -1,32 +1,31 @@
 //! A search for the rows of one section's clauses, whatever they stand for.
-ghost use Rattle.std.specs.Prelude.{◌≡◌, ◌≢◌, ℕ, ◌+◌, ◌<◌, ◌≤◌, [], List, Option, length, IfOk, IfErr, IfSome, OnErr, OnOk};
-ghost use Rattle.cc_cdcl.specs.Solvers.{SolverView, Found as IsFound, IsStep};
+ghost use Rattle.std.specs.Prelude.{◌≡◌, ℕ, ◌+◌, ◌<◌, ◌≤◌, [], Option, length, IfOk, IfErr, IfSome, OnErr, OnOk, Ok};
+ghost use Rattle.cc_cdcl.specs.Solvers.{SolverView, IsStep};
 ghost use Rattle.cc_cdcl.specs.declared.solver.Step.TheVariants as answers;
-ghost use Rattle.cc_defs.specs.Clauses.{Literal, IsNumbered};
 ghost use Rattle.cc_defs.specs.Limits.{most_histories};
 ghost use Rattle.cc_defs.specs.Refusals.{past};
 ghost use Rattle.cc_defs.specs.Runs.{Section};
-ghost use Rattle.cc_defs.specs.Sections.{Axioms, HasNoEmpty};
+ghost use Rattle.cc_defs.specs.Sections.{Axioms};
+ghost use Rattle.cc_defs.specs.declared.log.LogLine.{LogLine as LineSeen};
 ghost use Rattle.cc_defs.specs.declared.log.LogLine.TheVariants as lines;
 ghost use Rattle.cc_defs.specs.declared.refusal.Fault.TheVariants as faults;
 ghost use Rattle.cc_defs.specs.declared.refusal.LimitAt.TheVariants as limits;
-ghost use Rattle.cc_kernel.specs.Kernels.{clauses_of};
 ghost use Rattle.cc_query.specs.declared.stage.Find.TheVariants as finds;
 ghost use Rattle.cc_query.specs.declared.stage.Stage.TheVariants as stages;
 ghost use Rattle.cc_query.specs.Accepted.{AreGoodAxioms};
 ghost use Rattle.cc_query.specs.Parts.{open_section};
 ghost use Rattle.cc_query.specs.Searches.{Gives, GoesOn, HasMore, IsBehind, IsOver, IsReady, IsRightFault, IsShortFind, Stands, found_behind, left_of};
-ghost use Rattle.cc_query.specs.Sessions.{HasFound, IsBlocked, IsWithin};
+ghost use Rattle.cc_query.specs.Sessions.{HasFound, IsWithin};
 
 use crate::ask::Ask;
 use crate::laws::search_laws;
 use crate::opening::solver_of;
-use crate::shared::{budget_of, derived_line, is_asked, is_refuted};
+use crate::shared::{block_line, budget_of, derived_line, is_asked, is_refuted};
 use crate::stage::{Find, Stage};
 use cc_cdcl::{Solver, Step};
-use cc_defs::{EndWord, Fault, LimitAt, LogLine, OutOfMemory, Refusal, Row};
+use cc_defs::{EndWord, Fault, LimitAt, LogLine, OutOfMemory, Refusal};
 use cc_form::Form;
-use std::alloc::Global;
+use std::alloc::{AllocError, Global};
 use std::marker::Model;
 use std::mem;
 
@@ -113,38 +112,23 @@ impl Search {
         drop(before);
     }
 
-    // A derived line.
-    fn line(&mut self, solver: Solver, listed: u32) -> Result<Find, Fault>
-        requires ready { IsReady self.old.ask (stages.Searching solver listed) }
-        requires some { 0 < length solver.kernel.entries }
+    // A line that was made, with what comes behind it.
+    fn told(&mut self, line: Result<LogLine, OutOfMemory>, stage: Stage) -> Result<Find, Fault>
+        requires ready { OnOk line (IsReady self.old.ask stage) }
         requires over { IsOver self.old }
-        ensures find { (clause : List Literal) →
-            IsNumbered (clauses_of solver.kernel) (length solver.kernel.entries) clause →
-            IfOk result (λ find. find ≡ finds.Line (lines.Derived clause solver.kernel.chain)) }
-        ensures stands { OnOk result
-            (self.new ≡ record self.old { stage = stages.Searching solver listed }) }
+        ensures find { IfOk result (λ find.
+            (made : LineSeen) × (line ≡ Ok made) × (find ≡ finds.Line made)) }
+        ensures stands { OnOk result (self.new ≡ record self.old { stage = stage }) }
         ensures fault { IfErr result (λ fault. fault ≡ faults.OutOfMemory) }
         ensures over { OnErr result (IsOver self.new) }
     {
-        let line = derived_line(self.alloc, solver.kernel())?;
-        self.stand(Stage::Searching { solver, listed });
-        Ok(Find::Line(line))
-    }
-
-    // The line of the empty clause.
-    fn empty_line(&mut self, solver: Solver) -> Result<Find, Fault>
-        requires some { 0 < length solver.kernel.entries }
-        requires over { IsOver self.old }
-        ensures find { (clause : List Literal) →
-            IsNumbered (clauses_of solver.kernel) (length solver.kernel.entries) clause →
-            IfOk result (λ find. find ≡ finds.Line (lines.Derived clause solver.kernel.chain)) }
-        ensures stands { OnOk result (self.new ≡ record self.old { stage = stages.Refuted }) }
-        ensures fault { IfErr result (λ fault. fault ≡ faults.OutOfMemory) }
-        ensures over { OnErr result (IsOver self.new) }
-    {
-        let line = derived_line(self.alloc, solver.kernel())?;
-        self.stand(Stage::Refuted);
-        Ok(Find::Line(line))
+        match line {
+            Ok(line) => {
+                self.stand(stage);
+                Ok(Find::Line(line))
+            }
+            Err(OutOfMemory) => Err(Fault::OutOfMemory),
+        }
     }
 
     // The next row. It is not denied yet.
@@ -185,29 +169,17 @@ impl Search {
         ensures over { OnErr result (IsOver self.new) }
     {
         search_laws();
-        let row = Vec::from_slice(self.alloc, solver.row())?;
-        self.tell(solver, listed, row)
-    }
-
-    // The line that denies the row that was told.
-    fn block(&mut self, mut solver: Solver, listed: u32) -> Result<Find, Fault>
-        requires ready { IsReady self.old.ask (stages.Denying solver listed) }
-        requires over { IsOver self.old }
-        ensures find { (row : List ℕ) → solver.standing ≡ IsFound row →
-            IfOk result (λ find. find ≡ finds.Line (lines.Block row)) }
-        ensures stands { OnOk result ((blocked : SolverView) × IsBlocked solver blocked
-            × (self.new ≡ record self.old { stage = stages.Searching blocked listed })) }
-        ensures fault { IfErr result (λ fault. fault ≡ faults.OutOfMemory) }
-        ensures over { OnErr result (IsOver self.new) }
-    {
-        let row = Vec::from_slice(self.alloc, solver.row())?;
-        solver.block_row()?;
-        self.stand(Stage::Searching { solver, listed });
-        Ok(Find::Line(LogLine::Block { row: Row::of(row) }))
+        match Vec::from_slice(self.alloc, solver.row()) {
+            Ok(row) => self.tell(solver, listed, row),
+            Err(AllocError) => {
+                drop(solver);
+                Err(Fault::OutOfMemory)
+            }
+        }
     }
 
     // Behind a row: it is the last one that was asked for, or it is denied.
-    fn deny(&mut self, solver: Solver, listed: u32) -> Result<Find, Fault>
+    fn deny(&mut self, mut solver: Solver, listed: u32) -> Result<Find, Fault>
         requires ready { IsReady self.old.ask (stages.Denying solver listed) }
         requires over { IsOver self.old }
         ensures gives { IfOk result
@@ -217,35 +189,17 @@ impl Search {
     {
         search_laws();
         if is_asked(&self.ask, listed) {
-            Ok(Find::End(EndWord::Found))
-        } else {
-            self.block(solver, listed)
+            drop(solver);
+            return Ok(Find::End(EndWord::Found));
         }
+        let row = Vec::from_slice(self.alloc, solver.row());
+        let line = block_line(row, solver.block_row());
+        self.told(line, Stage::Searching { solver, listed })
     }
 
     // The next line of the section, its next row, or its end.
-    fn go_on(&mut self, solver: Solver, listed: u32) -> Result<Find, Fault>
+    fn go_on(&mut self, mut solver: Solver, listed: u32) -> Result<Find, Fault>
         requires ready { IsReady self.old.ask (stages.Searching solver listed) }
-        requires over { IsOver self.old }
-        ensures gives { IfOk result
-            (Gives (record self.old { stage = stages.Searching solver listed }) self.new) }
-        ensures fault { IfErr result
-            (IsRightFault (record self.old { stage = stages.Searching solver listed })) }
-        ensures over { OnErr result (IsOver self.new) }
-    {
-        search_laws();
-        let _ = &self.alloc;
-        if is_refuted(&solver) {
-            Ok(Find::End(EndWord::Empty))
-        } else {
-            self.search_on(solver, listed)
-        }
-    }
-
-    // The same where no clause is empty.
-    fn search_on(&mut self, mut solver: Solver, listed: u32) -> Result<Find, Fault>
-        requires ready { IsReady self.old.ask (stages.Searching solver listed) }
-        requires none { HasNoEmpty (clauses_of solver.kernel) }
         requires over { IsOver self.old }
         ensures gives { IfOk result
             (Gives (record self.old { stage = stages.Searching solver listed }) self.new) }
@@ -255,11 +209,29 @@ impl Search {
     {
         search_laws();
         let budget = budget_of(&self.ask);
-        match solver.next(budget)? {
-            Step::Line => self.line(solver, listed),
-            Step::Found => self.found(solver, listed),
-            Step::Refuted => self.empty_line(solver),
-            Step::Spent => Ok(Find::End(EndWord::Spent)),
+        if is_refuted(&solver) {
+            drop(solver);
+            return Ok(Find::End(EndWord::Empty));
+        }
+        match solver.next(budget) {
+            Ok(Step::Line) => {
+                let line = derived_line(self.alloc, solver.kernel());
+                self.told(line, Stage::Searching { solver, listed })
+            }
+            Ok(Step::Found) => self.found(solver, listed),
+            Ok(Step::Refuted) => {
+                let line = derived_line(self.alloc, solver.kernel());
+                drop(solver);
+                self.told(line, Stage::Refuted)
+            }
+            Ok(Step::Spent) => {
+                drop(solver);
+                Ok(Find::End(EndWord::Spent))
+            }
+            Err(OutOfMemory) => {
+                drop(solver);
+                Err(Fault::OutOfMemory)
+            }
         }
     }
 

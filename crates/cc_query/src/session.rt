@@ -1,10 +1,9 @@
 //! A search for the histories of a query, or for a path that goes against its claim.
-ghost use Rattle.std.specs.Prelude.{◌≡◌, ◌≢◌, ◌⊎◌, Bool, ℕ, ◌+◌, ◌<◌, ◌≤◌, ◌++◌, [], ◌∷◌, List, length, IfOk, IfErr, IfSome, IsNone, IsSome, OnErr, OnOk, Some, None, true, false};
+ghost use Rattle.std.specs.Prelude.{◌≡◌, ◌≢◌, ◌⊎◌, Bool, ℕ, ◌+◌, ◌<◌, ◌≤◌, ◌++◌, [], ◌∷◌, List, length, IfOk, IfErr, IfSome, IsNone, IsSome, OnErr, OnOk, Ok, Some, None, true, false};
 ghost use Rattle.std.specs.Option.{option_map};
 ghost use Rattle.cc_arena.specs.GroundViews.{plain_ground_query};
-ghost use Rattle.cc_cdcl.specs.Solvers.{SolverView, Found as IsFound, IsStep, Ready};
+ghost use Rattle.cc_cdcl.specs.Solvers.{SolverView, IsStep, Ready};
 ghost use Rattle.cc_cdcl.specs.declared.solver.Step.TheVariants as answers;
-ghost use Rattle.cc_defs.specs.Clauses.{Literal, IsNumbered};
 ghost use Rattle.cc_defs.specs.Description.{Description};
 ghost use Rattle.cc_defs.specs.Limits.{most_histories, most_steps};
 ghost use Rattle.cc_defs.specs.Refusals.{IsRefusedBy, past};
@@ -15,17 +14,17 @@ ghost use Rattle.cc_defs.specs.Runs.{axioms_of};
 ghost use Rattle.cc_defs.specs.declared.event.Event.TheVariants as events;
 ghost use Rattle.cc_defs.specs.declared.event.Told.{Told};
 ghost use Rattle.cc_defs.specs.declared.log.EndWord.TheVariants as words;
+ghost use Rattle.cc_defs.specs.declared.log.LogLine.{LogLine as LineSeen};
 ghost use Rattle.cc_defs.specs.declared.log.LogLine.TheVariants as lines;
 ghost use Rattle.cc_form.specs.Queries.{IsQueryAt};
-ghost use Rattle.cc_kernel.specs.Kernels.{KernelView, clauses_of, derived_count};
+ghost use Rattle.cc_kernel.specs.Kernels.{derived_count};
 ghost use Rattle.cc_query.specs.Parts.{axioms_at, is_conditions};
 ghost use Rattle.cc_defs.specs.declared.event.Ending.{Ending as EndingSeen};
-ghost use Rattle.cc_defs.specs.Sections.{HasNoEmpty};
 ghost use Rattle.cc_query.specs.declared.phase.Phase.{Phase as PhaseSeen};
 ghost use Rattle.cc_query.specs.Accepted.{AreGoodAxioms};
 ghost use Rattle.cc_query.specs.Events.{Gives};
 ghost use Rattle.cc_query.specs.Lefts.{left_of};
-ghost use Rattle.cc_query.specs.Sessions.{After, Fits, HasFound, HasMore, Holds, IsBlocked, IsReady, IsFewEvent, IsRightFault, IsOpened, IsSame, IsSessionOf, IsShortEvent, IsWithin, OpensGood, OpensWithin, RowsAreHistories, SessionView, StandsOpened, Tells, ending_behind, first_at, last_at, opening_refusal, opens_at, with_row};
+ghost use Rattle.cc_query.specs.Sessions.{After, Fits, HasFound, HasMore, Holds, IsReady, IsFewEvent, IsRightFault, IsOpened, IsSame, IsSessionOf, IsShortEvent, IsWithin, OpensGood, OpensWithin, RowsAreHistories, SessionView, StandsOpened, Tells, ending_behind, first_at, last_at, opening_refusal, opens_at, with_row};
 ghost use Rattle.cc_query.specs.declared.phase.Part.TheVariants as parts;
 ghost use Rattle.cc_query.specs.declared.phase.Phase.TheVariants as phases;
 ghost use Rattle.cc_theory.specs.Theories.{AreLawsFor};
@@ -35,14 +34,11 @@ use crate::laws::search_laws;
 use crate::lists::Lists;
 use crate::opening::{denies_claim, solver_of};
 use crate::phase::{Part, Phase};
-use crate::shared::{budget_of, derived_line, is_asked, is_refuted};
+use crate::shared::{block_line, budget_of, derived_line, is_asked, is_refuted};
 use cc_arena::{GroundQuery, Laws};
 use cc_cdcl::{Solver, Step};
-use cc_defs::{
-    EndWord, Ending, Event, Fault, Key, LimitAt, LogLine, OutOfMemory, Refusal, Row, Sig,
-};
-use cc_kernel::Kernel;
-use std::alloc::Global;
+use cc_defs::{EndWord, Ending, Event, Fault, Key, LimitAt, LogLine, OutOfMemory, Refusal, Sig};
+use std::alloc::{AllocError, Global};
 use std::marker::Model;
 use std::mem;
 
@@ -91,17 +87,6 @@ impl<'a> Model for Session<'a> {
       row = s.row.items;
       phase = s.phase;
     }) };
-}
-
-/// The line of the clause that was derived last.
-fn derived(alloc: Global, kernel: &Kernel) -> Result<Event, OutOfMemory>
-    requires { 0 < length kernel.now.entries }
-    ensures { (clause : List Literal) →
-        IsNumbered (clauses_of kernel.now) (length kernel.now.entries) clause →
-        IfOk result (λ event. event ≡ events.Log (lines.Derived clause kernel.now.chain)) }
-{
-    let line = derived_line(alloc, kernel)?;
-    Ok(Event::Log(line))
 }
 
 /// The first horizon that is tried.
@@ -273,14 +258,17 @@ impl<'a> Session<'a> {
         ensures fresh { IfOk result (λ solver. derived_count solver.kernel.entries ≡ 0) }
     {
         let key = key_of(&self.ask);
-        let form = self.lists.form(
-            self.alloc,
-            &self.query,
-            key,
-            self.horizon,
-            denies_claim(part),
-        )?;
-        Ok(solver_of(self.alloc, form)?)
+        let denies = denies_claim(part);
+        match self
+            .lists
+            .form(self.alloc, &self.query, key, self.horizon, denies)
+        {
+            Ok(form) => match solver_of(self.alloc, form) {
+                Ok(solver) => Ok(solver),
+                Err(OutOfMemory) => Err(Fault::OutOfMemory),
+            },
+            Err(fault) => Err(fault),
+        }
     }
 
     // What comes next.
@@ -312,8 +300,20 @@ impl<'a> Session<'a> {
             IfErr result (IsRightFault (record self.old { phase = phase })) }
     {
         search_laws();
-        self.prepare()?;
-        self.open_prepared(part)
+        match self.prepare() {
+            Ok(()) => match self.solver(part) {
+                Ok(solver) => {
+                    self.stand(Phase::Searching {
+                        part,
+                        solver,
+                        listed: 0,
+                    });
+                    Ok(heading(part, self.horizon))
+                }
+                Err(fault) => Err(fault),
+            },
+            Err(OutOfMemory) => Err(Fault::OutOfMemory),
+        }
     }
 
     // Makes what the clause lists of longer horizons are put together from.
@@ -321,24 +321,6 @@ impl<'a> Session<'a> {
         ensures { self.new ≡ self.old }
     {
         self.lists.prepare(self.alloc, self.horizon)
-    }
-
-    // The same where all is prepared.
-    fn open_prepared(&mut self, part: Part) -> Result<Event, Fault>
-        requires { self.old.horizon ≤ last_at self.old.query self.old.ask.after }
-        ensures gives { (phase : PhaseSeen) → opens_at phase ≡ Some part →
-            IfOk result (Gives (record self.old { phase = phase }) self.new) }
-        ensures fault { (phase : PhaseSeen) → opens_at phase ≡ Some part →
-            IfErr result (IsRightFault (record self.old { phase = phase })) }
-    {
-        search_laws();
-        let solver = self.solver(part)?;
-        self.stand(Phase::Searching {
-            part,
-            solver,
-            listed: 0,
-        });
-        Ok(heading(part, self.horizon))
     }
 
     // The heading of the next horizon's first section, or the ending behind the last one.
@@ -357,41 +339,22 @@ impl<'a> Session<'a> {
         }
     }
 
-    // A derived line.
-    fn line(&mut self, part: Part, solver: Solver, listed: u32) -> Result<Event, Fault>
-        requires ready { IsReady self.old.ask self.old.horizon
-            (last_at self.old.query self.old.ask.after) (phases.Searching part solver listed) }
-        requires some { 0 < length solver.kernel.entries }
-        ensures event { (clause : List Literal) →
-            IsNumbered (clauses_of solver.kernel) (length solver.kernel.entries) clause →
-            IfOk result (λ event. event ≡ events.Log (lines.Derived clause solver.kernel.chain)) }
-        ensures stands { OnOk result
-            (self.new ≡ record self.old { phase = phases.Searching part solver listed }) }
+    // A line that was made, with what comes behind it.
+    fn told(&mut self, line: Result<LogLine, OutOfMemory>, phase: Phase) -> Result<Event, Fault>
+        requires { OnOk line (IsReady self.old.ask self.old.horizon
+            (last_at self.old.query self.old.ask.after) phase) }
+        ensures event { IfOk result (λ event.
+            (made : LineSeen) × (line ≡ Ok made) × (event ≡ events.Log made)) }
+        ensures stands { OnOk result (self.new ≡ record self.old { phase = phase }) }
         ensures fault { IfErr result (λ fault. fault ≡ faults.OutOfMemory) }
     {
-        let event = derived(self.alloc, solver.kernel())?;
-        self.stand(Phase::Searching {
-            part,
-            solver,
-            listed,
-        });
-        Ok(event)
-    }
-
-    // The line of the empty clause.
-    fn empty_line(&mut self, part: Part, solver: Solver, listed: u32) -> Result<Event, Fault>
-        requires low { self.old.horizon ≤ last_at self.old.query self.old.ask.after }
-        requires some { 0 < length solver.kernel.entries }
-        ensures event { (clause : List Literal) →
-            IsNumbered (clauses_of solver.kernel) (length solver.kernel.entries) clause →
-            IfOk result (λ event. event ≡ events.Log (lines.Derived clause solver.kernel.chain)) }
-        ensures stands { OnOk result
-            (self.new ≡ record self.old { phase = phases.Refuted part listed }) }
-        ensures fault { IfErr result (λ fault. fault ≡ faults.OutOfMemory) }
-    {
-        let event = derived(self.alloc, solver.kernel())?;
-        self.stand(Phase::Refuted { part, listed });
-        Ok(event)
+        match line {
+            Ok(line) => {
+                self.stand(phase);
+                Ok(Event::Log(line))
+            }
+            Err(OutOfMemory) => Err(Fault::OutOfMemory),
+        }
     }
 
     // The next history. It is not denied yet.
@@ -421,28 +384,8 @@ impl<'a> Session<'a> {
         })
     }
 
-    // The line that denies the history that was told.
-    fn block(&mut self, mut solver: Solver, listed: u32) -> Result<Event, Fault>
-        requires { IsReady self.old.ask self.old.horizon
-            (last_at self.old.query self.old.ask.after) (phases.Denying solver listed) }
-        ensures event { (row : List ℕ) → solver.standing ≡ IsFound row →
-            IfOk result (λ event. event ≡ events.Log (lines.Block row)) }
-        ensures stands { OnOk result ((blocked : SolverView) × IsBlocked solver blocked × (self.new
-            ≡ record self.old { phase = phases.Searching parts.Histories blocked listed })) }
-        ensures fault { IfErr result (λ fault. fault ≡ faults.OutOfMemory) }
-    {
-        let row = Vec::from_slice(self.alloc, solver.row())?;
-        solver.block_row()?;
-        self.stand(Phase::Searching {
-            part: Part::Histories,
-            solver,
-            listed,
-        });
-        Ok(Event::Log(LogLine::Block { row: Row::of(row) }))
-    }
-
     // Behind a history: it is the last one that was asked for, or it is denied.
-    fn deny(&mut self, solver: Solver, listed: u32) -> Result<Event, Fault>
+    fn deny(&mut self, mut solver: Solver, listed: u32) -> Result<Event, Fault>
         requires { IsReady self.old.ask self.old.horizon
             (last_at self.old.query self.old.ask.after) (phases.Denying solver listed) }
         ensures gives { IfOk result
@@ -451,24 +394,23 @@ impl<'a> Session<'a> {
     {
         search_laws();
         if is_asked(&self.ask, listed) {
-            Ok(self.close(Part::Histories, EndWord::Found, listed))
-        } else {
-            self.block(solver, listed)
+            drop(solver);
+            return Ok(self.close(Part::Histories, EndWord::Found, listed));
         }
+        let row = Vec::from_slice(self.alloc, solver.row());
+        let line = block_line(row, solver.block_row());
+        let part = Part::Histories;
+        self.told(
+            line,
+            Phase::Searching {
+                part,
+                solver,
+                listed,
+            },
+        )
     }
 
-    // A path that meets the conditions, or that does not meet the claim either: the end line.
-    fn path(&mut self, part: Part, row: Vec<u32>, listed: u32) -> Event
-        requires { self.old.horizon ≤ last_at self.old.query self.old.ask.after }
-        ensures stands { self.new
-            ≡ record self.old { row = row.items; phase = phases.Closed part words.Found listed } }
-        ensures event { result ≡ events.Log (lines.End words.Found) }
-    {
-        self.row = row;
-        self.close(part, EndWord::Found, listed)
-    }
-
-    // A row that was found.
+    // A row that was found: the next history; for a query with a claim the path that was looked for, and the end line.
     fn found(&mut self, part: Part, solver: Solver, listed: u32) -> Result<Event, Fault>
         requires low { self.old.horizon ≤ last_at self.old.query self.old.ask.after }
         requires found { HasFound solver }
@@ -481,16 +423,24 @@ impl<'a> Session<'a> {
             (IsRightFault (record self.old { phase = phases.Searching part before listed })) }
     {
         search_laws();
-        let row = Vec::from_slice(self.alloc, solver.row())?;
-        if is_listing(part) {
-            self.history(solver, listed, row)
-        } else {
-            Ok(self.path(part, row, listed))
+        match Vec::from_slice(self.alloc, solver.row()) {
+            Ok(row) => {
+                if is_listing(part) {
+                    return self.history(solver, listed, row);
+                }
+                drop(solver);
+                self.row = row;
+                Ok(self.close(part, EndWord::Found, listed))
+            }
+            Err(AllocError) => {
+                drop(solver);
+                Err(Fault::OutOfMemory)
+            }
         }
     }
 
     // The next line of a section, or its next history.
-    fn search(&mut self, part: Part, solver: Solver, listed: u32) -> Result<Event, Fault>
+    fn search(&mut self, part: Part, mut solver: Solver, listed: u32) -> Result<Event, Fault>
         requires { IsReady self.old.ask self.old.horizon
             (last_at self.old.query self.old.ask.after) (phases.Searching part solver listed) }
         ensures gives { IfOk result
@@ -499,31 +449,37 @@ impl<'a> Session<'a> {
             (IsRightFault (record self.old { phase = phases.Searching part solver listed })) }
     {
         search_laws();
-        let _ = &self.alloc;
-        if is_refuted(&solver) {
-            Ok(self.close(part, EndWord::Empty, listed))
-        } else {
-            self.search_on(part, solver, listed)
-        }
-    }
-
-    // The same where no clause is empty.
-    fn search_on(&mut self, part: Part, mut solver: Solver, listed: u32) -> Result<Event, Fault>
-        requires ready { IsReady self.old.ask self.old.horizon
-            (last_at self.old.query self.old.ask.after) (phases.Searching part solver listed) }
-        requires none { HasNoEmpty (clauses_of solver.kernel) }
-        ensures gives { IfOk result
-            (Gives (record self.old { phase = phases.Searching part solver listed }) self.new) }
-        ensures fault { IfErr result
-            (IsRightFault (record self.old { phase = phases.Searching part solver listed })) }
-    {
-        search_laws();
         let budget = budget_of(&self.ask);
-        match solver.next(budget)? {
-            Step::Line => self.line(part, solver, listed),
-            Step::Found => self.found(part, solver, listed),
-            Step::Refuted => self.empty_line(part, solver, listed),
-            Step::Spent => Ok(self.close(part, EndWord::Spent, listed)),
+        if is_refuted(&solver) {
+            drop(solver);
+            return Ok(self.close(part, EndWord::Empty, listed));
+        }
+        match solver.next(budget) {
+            Ok(Step::Line) => {
+                let line = derived_line(self.alloc, solver.kernel());
+                self.told(
+                    line,
+                    Phase::Searching {
+                        part,
+                        solver,
+                        listed,
+                    },
+                )
+            }
+            Ok(Step::Found) => self.found(part, solver, listed),
+            Ok(Step::Refuted) => {
+                let line = derived_line(self.alloc, solver.kernel());
+                drop(solver);
+                self.told(line, Phase::Refuted { part, listed })
+            }
+            Ok(Step::Spent) => {
+                drop(solver);
+                Ok(self.close(part, EndWord::Spent, listed))
+            }
+            Err(OutOfMemory) => {
+                drop(solver);
+                Err(Fault::OutOfMemory)
+            }
         }
     }
 
@@ -541,24 +497,6 @@ impl<'a> Session<'a> {
         self.met = met;
     }
 
-    // What is said of a horizon whose listing is complete.
-    fn complete(&mut self, listed: u32) -> Event
-        requires low { self.old.horizon ≤ last_at self.old.query self.old.ask.after }
-        requires over { self.old.phase ≡ phases.Ended }
-        ensures { Gives (record
-            self.old { phase = phases.Closed parts.Histories words.Empty listed }) self.new result }
-    {
-        search_laws();
-        let horizon = self.horizon;
-        let met = self.met;
-        if has_none(&self.ask, listed) {
-            self.pass(Part::Histories, met);
-            Event::NoHistory { horizon }
-        } else {
-            Event::Ended(Ending::Complete { horizon, listed })
-        }
-    }
-
     // What is said of a horizon that has no path to be found.
     fn exhaust(&mut self, part: Part, listed: u32) -> Event
         requires low { self.old.horizon ≤ last_at self.old.query self.old.ask.after }
@@ -570,7 +508,14 @@ impl<'a> Session<'a> {
         let horizon = self.horizon;
         let met = self.met;
         match part {
-            Part::Histories => self.complete(listed),
+            Part::Histories => {
+                if has_none(&self.ask, listed) {
+                    self.pass(Part::Histories, met);
+                    Event::NoHistory { horizon }
+                } else {
+                    Event::Ended(Ending::Complete { horizon, listed })
+                }
+            }
             Part::Conditions => {
                 self.pass(Part::Conditions, met);
                 Event::NoConditions { horizon }

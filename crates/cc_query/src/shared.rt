@@ -1,5 +1,5 @@
 //! What all searches share: derived lines, and how much is asked for.
-ghost use Rattle.std.specs.Prelude.{◌≡◌, ◌≢◌, ℕ, ◌<◌, [], List, length, Contains, IfOk, Some, true, false};
+ghost use Rattle.std.specs.Prelude.{◌≡◌, ◌≢◌, ℕ, ◌<◌, [], List, length, Contains, IfOk, IsOk, OnOk, Some, true, false};
 ghost use Rattle.cc_defs.specs.Clauses.{Literal, IsNumbered};
 ghost use Rattle.cc_defs.specs.Sections.{HasNoEmpty};
 ghost use Rattle.cc_defs.specs.declared.log.LogLine.TheVariants as lines;
@@ -7,9 +7,9 @@ ghost use Rattle.cc_kernel.specs.Kernels.{clauses_of};
 
 use crate::ask::Ask;
 use cc_cdcl::Solver;
-use cc_defs::{Lits, LogLine, Nums, OutOfMemory};
+use cc_defs::{Lits, LogLine, Nums, OutOfMemory, Row};
 use cc_kernel::Kernel;
-use std::alloc::Global;
+use std::alloc::{AllocError, Global};
 
 /// The line of the clause that was derived last.
 pub(crate) fn derived_line(alloc: Global, kernel: &Kernel) -> Result<LogLine, OutOfMemory>
@@ -18,12 +18,34 @@ pub(crate) fn derived_line(alloc: Global, kernel: &Kernel) -> Result<LogLine, Ou
         IsNumbered (clauses_of kernel.now) (length kernel.now.entries) clause →
         IfOk result (λ line. line ≡ lines.Derived clause kernel.now.chain) }
 {
-    let clause = Vec::from_slice(alloc, kernel.clause(kernel.count()))?;
-    let chain = Vec::from_slice(alloc, kernel.chain())?;
-    Ok(LogLine::Derived {
-        clause: Lits::of(clause),
-        chain: Nums::of(chain),
-    })
+    match Vec::from_slice(alloc, kernel.clause(kernel.count())) {
+        Ok(clause) => match Vec::from_slice(alloc, kernel.chain()) {
+            Ok(chain) => Ok(LogLine::Derived {
+                clause: Lits::of(clause),
+                chain: Nums::of(chain),
+            }),
+            Err(AllocError) => Err(OutOfMemory),
+        },
+        Err(AllocError) => Err(OutOfMemory),
+    }
+}
+
+/// The line that denies a row, where the row was copied, and denied.
+pub(crate) fn block_line(
+    row: Result<Vec<u32>, AllocError>,
+    denied: Result<u32, OutOfMemory>,
+) -> Result<LogLine, OutOfMemory>
+    ensures line { (items : List ℕ) →
+        IfOk row (λ row. row.items ≡ items) → IfOk result (λ line. line ≡ lines.Block items) }
+    ensures denied { OnOk result (IsOk denied) }
+{
+    match row {
+        Ok(row) => match denied {
+            Ok(_) => Ok(LogLine::Block { row: Row::of(row) }),
+            Err(error) => Err(error),
+        },
+        Err(AllocError) => Err(OutOfMemory),
+    }
 }
 
 /// How many derived clauses a section may have.
