@@ -65,7 +65,10 @@ fn begun(alloc: Global, draft: Draft, sizes: &[u32]) -> Result<Builder, Fault>
     let writer = draft.into_writer();
     match writer.fits() {
         Ok(()) => Ok(Builder { writer, alloc }),
-        Err(fault) => Err(fault),
+        Err(fault) => {
+            drop(writer);
+            Err(fault)
+        }
     }
 }
 

@@ -81,8 +81,13 @@ impl Draft {
         ensures refused { IfErr result (IsPast (true_variable sizes.items)) }
     {
         let mut writer = Writer::new(alloc, sizes)?;
-        write_first(&mut writer)?;
-        Ok(Draft { writer, alloc })
+        match write_first(&mut writer) {
+            Ok(()) => Ok(Draft { writer, alloc }),
+            Err(OutOfMemory) => {
+                drop(writer);
+                Err(Fault::OutOfMemory)
+            }
+        }
     }
 
     /// The writer, with what was put behind.

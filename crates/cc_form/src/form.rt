@@ -284,8 +284,13 @@ pub(crate) fn close(writer: Writer) -> Result<Form, Fault>
     ensures refused { (kept : List (List Literal)) →
         Holds writer.store.kept kept → IfErr result (IsRefusedBy (count_refusal kept)) }
 {
-    writer.fits()?;
-    Ok(form_of_whole(writer))
+    match writer.fits() {
+        Ok(()) => Ok(form_of_whole(writer)),
+        Err(fault) => {
+            drop(writer);
+            Err(fault)
+        }
+    }
 }
 
 /// The clauses of a section, written by a writer over its positions.

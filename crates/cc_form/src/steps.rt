@@ -21,7 +21,7 @@ use crate::store::Store;
 use crate::writer::Writer;
 use cc_arena::Laws;
 use cc_clauses::ClauseArena;
-use cc_defs::{Fault, Lit, Sig};
+use cc_defs::{Fault, Lit, OutOfMemory, Sig};
 use cc_results::both;
 use cc_theory::laws::laws_give_rules;
 use cc_theory::{Theory, TimedRule, initial_rules, step_rules};
@@ -163,9 +163,16 @@ fn begin(
 {
     laws_give_rules();
     let stride = u64::from(sig.fluents()) + u64::from(sig.actions());
-    let rules = initial_rules(alloc, sig)?;
-    ruled(alloc, writer, stride, &rules, literals)?;
-    Ok(())
+    match initial_rules(alloc, sig) {
+        Ok(rules) => match ruled(alloc, writer, stride, &rules, literals) {
+            Ok(step) => {
+                drop(step);
+                Ok(())
+            }
+            Err(fault) => Err(fault),
+        },
+        Err(OutOfMemory) => Err(Fault::OutOfMemory),
+    }
 }
 
 /// The clauses of the rules of a step, and the literals of their bodies behind those of the steps before.

@@ -324,8 +324,10 @@ fn made(
         (plain_ground_query query.now) with_claim (option_map (λ key. key.now) after.entry)
         (option_map (λ key. key.now.row) after.entry) result }
 {
-    let theory = Theory::at(alloc, sig, laws, horizon)?;
-    clauses(alloc, &theory, query, with_claim, after)
+    match Theory::at(alloc, sig, laws, horizon) {
+        Ok(theory) => clauses(alloc, &theory, query, with_claim, after),
+        Err(fault) => Err(fault),
+    }
 }
 
 impl<'a> Template<'a> {
