@@ -2,7 +2,7 @@
 use cc_defs::Version;
 
 /// What the words ask for; all texts are lent from them.
-#[derive(Clone, Copy, PartialEq, Eq)]
+#[derive(Clone, Copy)]
 pub enum Asked<'a> {
     /// Histories of a query.
     List(ListAsked<'a>),
@@ -31,7 +31,7 @@ pub enum Asked<'a> {
 }
 
 /// Histories of a query.
-#[derive(Clone, Copy, PartialEq, Eq)]
+#[derive(Clone, Copy)]
 pub struct ListAsked<'a> {
     pub file: &'a str,
     /// Its label; the first query without it.
@@ -49,7 +49,7 @@ pub struct ListAsked<'a> {
 }
 
 /// Whether a log is right.
-#[derive(Clone, Copy, PartialEq, Eq)]
+#[derive(Clone, Copy)]
 pub struct CheckAsked<'a> {
     pub file: &'a str,
     /// Its label; the first query without it.
@@ -61,7 +61,7 @@ pub struct CheckAsked<'a> {
 }
 
 /// Why a history has its values.
-#[derive(Clone, Copy, PartialEq, Eq)]
+#[derive(Clone, Copy)]
 pub struct ExplainAsked<'a> {
     pub file: &'a str,
     /// The key of the history.
@@ -69,7 +69,7 @@ pub struct ExplainAsked<'a> {
 }
 
 /// A log in its other version.
-#[derive(Clone, Copy, PartialEq, Eq)]
+#[derive(Clone, Copy)]
 pub struct ConvertAsked<'a> {
     pub file: &'a str,
     /// Its label; the first query without it.
@@ -83,7 +83,7 @@ pub struct ConvertAsked<'a> {
 }
 
 /// The clause list of a horizon of a query.
-#[derive(Clone, Copy, PartialEq, Eq)]
+#[derive(Clone, Copy)]
 pub struct ExportAsked<'a> {
     pub file: &'a str,
     /// Its label; the first query without it.
@@ -93,7 +93,7 @@ pub struct ExportAsked<'a> {
 }
 
 /// Models of a CNF.
-#[derive(Clone, Copy, PartialEq, Eq)]
+#[derive(Clone, Copy)]
 pub struct ModelsAsked<'a> {
     /// The file of the CNF.
     pub file: &'a str,
@@ -108,7 +108,7 @@ pub struct ModelsAsked<'a> {
 }
 
 /// Whether a log of models is right.
-#[derive(Clone, Copy, PartialEq, Eq)]
+#[derive(Clone, Copy)]
 pub struct CheckModelsAsked<'a> {
     /// The file of the CNF.
     pub file: &'a str,
@@ -117,7 +117,7 @@ pub struct CheckModelsAsked<'a> {
 }
 
 /// What is certain, possible and impossible.
-#[derive(Clone, Copy, PartialEq, Eq)]
+#[derive(Clone, Copy)]
 pub struct SureAsked<'a> {
     pub file: &'a str,
     /// Its label; the first query without it.
@@ -129,7 +129,7 @@ pub struct SureAsked<'a> {
 }
 
 /// Whether a log of what is impossible is right.
-#[derive(Clone, Copy, PartialEq, Eq)]
+#[derive(Clone, Copy)]
 pub struct CheckSureAsked<'a> {
     pub file: &'a str,
     /// Its label; the first query without it.
@@ -139,7 +139,7 @@ pub struct CheckSureAsked<'a> {
 }
 
 /// Histories by the definition of a model, where heads may be of any form.
-#[derive(Clone, Copy, PartialEq, Eq)]
+#[derive(Clone, Copy)]
 pub struct GeneralAsked<'a> {
     pub file: &'a str,
     /// Its label; the first query without it.
@@ -153,7 +153,7 @@ pub struct GeneralAsked<'a> {
 }
 
 /// Whether a log of rivals is right.
-#[derive(Clone, Copy, PartialEq, Eq)]
+#[derive(Clone, Copy)]
 pub struct CheckGeneralAsked<'a> {
     pub file: &'a str,
     /// Its label; the first query without it.
