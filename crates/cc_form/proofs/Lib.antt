@@ -7,7 +7,6 @@ mod Completing
 mod Copying
 mod Definitions
 mod Drafting
-mod Extending
 mod Joining
 mod Keeping
 mod Keys
@@ -34,5 +33,4 @@ mod Spreading
 mod Standing
 mod Stepping
 pub mod Telling
-mod Whole
 mod Written

@@ -5,7 +5,7 @@ use Rattle.std.specs.Cmp.Lexicographic.{pointwise}
 use Rattle.cc_ports.specs.declared.desk.To.{To}
 use Rattle.cc_ports.specs.declared.desk.To.TheVariants as outputs
 use Rattle.cc_ports.specs.Contents.{Contents, output_of}
-use Rattle.cc_ports.specs.Sheet.{Sheet}
+use Rattle.cc_desks.specs.Sheet.{Sheet}
 
 -- the place of the first file of this name
 abbrev pub place_in : List (List ℕ × List ℕ) → List ℕ → Option ℕ

@@ -1,8 +1,8 @@
 //! An output in memory.
 ghost use Rattle.std.specs.Prelude.{◌≡◌, ◌-◌, ◌≤◌, ◌<◌, ◌↔◌, min, [], ◌++◌, length, take, IfOk, OnOk, OnErr, IsErr};
 
-use crate::Failed;
 use cc_defs::OutOfMemory;
+use cc_ports::Failed;
 use std::alloc::Global;
 use std::marker::Model;
 
@@ -15,7 +15,7 @@ pub(crate) struct Sheet {
 
 impl Model for Sheet {
     ghost use Rattle.std.specs.Prelude.{◌≤◌, vec_len, vec_capacity};
-    ghost use Rattle.cc_ports.specs.Sheet.{Sheet as Written};
+    ghost use Rattle.cc_desks.specs.Sheet.{Sheet as Written};
 
     ghost Value = { Written };
 

@@ -1,0 +1,4 @@
+pub mod Memory
+pub mod MemoryFields
+pub mod Sheet
+pub mod Still
