@@ -1,5 +1,5 @@
 -- The bodies of rules that stand some steps later.
-use Rattle.std.proofs.Common.{◌≡◌, ◌∙◌, ℕ, suc, ◌+◌, ◌*◌, ◌<◌, ◌≤◌, Bool, true, false, List, [], ◌∷◌, ◌++◌, map, Option, Some, None, refl, sym, ap, subst, arith, option_map}
+use Rattle.std.proofs.Common.{◌≡◌, ◌∙◌, ℕ, ◌+◌, ◌*◌, ◌<◌, ◌≤◌, Bool, true, false, List, [], ◌∷◌, ◌++◌, map, Option, Some, None, refl, sym, ap, subst, arith, option_map}
 use Rattle.std.specs.Prelude.{if◌then◌else◌, ◌==◌, slice_index_or}
 use Rattle.std.specs.List.{AllByRecursion}
 use Rattle.std.proofs.Math.Nat.{add-mul}
@@ -7,10 +7,10 @@ use Rattle.std.proofs.lemmas.List.{map-append}
 use Rattle.cc_defs.specs.declared.node.GroundHead.{GroundHead}
 use Rattle.cc_defs.specs.declared.node.Node.{Node}
 use Rattle.cc_defs.specs.declared.node.Node.TheVariants as nodes
-use Rattle.cc_defs.specs.ClauseForms.{Made, atom_variable, made_of, positive, true_variable}
-use Rattle.cc_defs.specs.ClauseLists.{Bodied, MadeRules, is_certain}
+use Rattle.cc_defs.specs.ClauseForms.{Made, atom_variable, positive, true_variable}
+use Rattle.cc_defs.specs.ClauseLists.{MadeRules, is_certain}
 use Rattle.cc_defs.specs.Clauses.{Literal}
-use Rattle.cc_defs.specs.Terms.{Fits, IsTermOver, postfix}
+use Rattle.cc_defs.specs.Terms.{Fits, IsTermOver}
 use Rattle.cc_defs.specs.TimedRules.{moved}
 use Rattle.cc_theory.specs.declared.rule.Timed.{Timed}
 use Rattle.cc_theory.specs.declared.rule.TimedHead.{TimedHead}

@@ -1,20 +1,18 @@
 -- The clauses of a horizon, put together from those of the steps of a horizon of two.
-use Rattle.std.proofs.Common.{◌≡◌, ◌∙◌, ℕ, suc, ◌+◌, ◌-◌, ◌*◌, ◌<◌, ◌≤◌, List, [], ◌∷◌, ◌++◌, length, flat_map, sum, Bool, IsErrAnd, Option, Some, None, Result, Ok, Err, OnOk, IfOk, IfErr, nat_lt, refl, sym, ap, subst, arith, append_assoc}
-use Rattle.std.specs.Prelude.{if◌then◌else◌}
+use Rattle.std.proofs.Common.{◌≡◌, ◌∙◌, ℕ, suc, ◌+◌, ◌-◌, ◌*◌, ◌≤◌, List, [], ◌∷◌, ◌++◌, length, flat_map, sum, Bool, IsErrAnd, Option, None, Result, Ok, Err, OnOk, IfOk, IfErr, refl, sym, ap, subst, arith, append_assoc}
 use Rattle.std.specs.List.{AllByRecursion}
 use Rattle.std.specs.Option.{option_or}
 use Rattle.std.proofs.lemmas.Bool.{le-ltb}
 use Rattle.cc_arena.specs.declared.ground_laws.GroundLaw.{GroundLaw}
 use Rattle.cc_defs.specs.declared.lists.Key.{Key}
 use Rattle.cc_defs.specs.declared.refusal.Fault.{Fault}
-use Rattle.cc_defs.specs.declared.refusal.LimitAt.TheVariants as limits
 use Rattle.cc_defs.specs.declared.refusal.Refusal.{Refusal}
 use Rattle.cc_defs.specs.ClauseForms.{all_written, true_variable}
-use Rattle.cc_defs.specs.ClauseLists.{ClauseList, MadeRules, clauses_over, completion_from, denials_of}
-use Rattle.cc_defs.specs.Clauses.{IsOver, Literal}
+use Rattle.cc_defs.specs.ClauseLists.{ClauseList, MadeRules, completion_from, denials_of}
+use Rattle.cc_defs.specs.Clauses.{Literal}
 use Rattle.cc_defs.specs.Description.{Description}
 use Rattle.cc_defs.specs.GroundLaws.{PlainGroundQuery, StandsForQuery}
-use Rattle.cc_defs.specs.Refusals.{IsRefusedBy, past}
+use Rattle.cc_defs.specs.Refusals.{IsRefusedBy}
 use Rattle.cc_defs.specs.Resolved.{Query}
 use Rattle.cc_defs.specs.Rules.{upto}
 use Rattle.cc_defs.specs.Sections.{Axioms}
@@ -24,15 +22,14 @@ use Rattle.cc_theory.specs.declared.rule.TimedRule.{TimedRule}
 use Rattle.cc_theory.specs.Making.{rules_for, stride_of}
 use Rattle.cc_theory.specs.Theories.{AreLawsOf, GiveRules, rules_refusal}
 use Rattle.cc_form.specs.declared.moving.Way.{Way}
-use Rattle.cc_form.specs.declared.steps.Step.{Step}
 use Rattle.cc_form.specs.declared.steps.Steps.{Steps}
 use Rattle.cc_form.specs.declared.store.Kept.{Kept}
 use Rattle.cc_form.specs.Forms.{section_refusal}
 use Rattle.cc_form.specs.Laws.{AllFit}
-use Rattle.cc_form.specs.Making.{IsBodyOver, list_over, made_bodies, rules_list}
+use Rattle.cc_form.specs.Making.{IsBodyOver, made_bodies, rules_list}
 use Rattle.cc_form.specs.Parts.{first_clauses}
 use Rattle.cc_form.specs.Places.{position_sizes}
-use Rattle.cc_form.specs.Steps.{AreOver, AreOverStep, AreOverSteps, AreSteps, CanPlace, IsFormAt, bodies_at, bodies_of_step, completion_of_step, denials_of_step, placed, placed_by, placed_steps, truth_at, way_of}
+use Rattle.cc_form.specs.Steps.{AreOver, AreOverSteps, AreSteps, CanPlace, IsFormAt, bodies_at, bodies_of_step, completion_of_step, denials_of_step, placed, placed_by, placed_steps, truth_at, way_of}
 use Rattle.cc_form.specs.Store.{Gives}
 use Rattle.cc_form.proofs.Bodies.{bodies_rise}
 use Rattle.cc_form.proofs.Causes.{all_left, all_right}

@@ -1,23 +1,20 @@
 -- The positions of a horizon of two steps among those of a longer one, and how their variables move.
-use Rattle.std.proofs.Common.{inl, inr, ◌≡◌, ◌∙◌, ℕ, zero, suc, ◌+◌, ◌-◌, ◌*◌, ◌<◌, ◌≤◌, Bool, true, false, List, [], ◌∷◌, ◌++◌, length, map, nat_lt, Some, slice_get, sum, refl, sym, ap, subst, arith, append_assoc, append-nil, length-append}
-use Rattle.std.specs.Prelude.{if◌then◌else◌, slice_index_or}
-use Rattle.std.proofs.Math.Nat.{add-mul, mul-le-mul_right}
+use Rattle.std.proofs.Common.{inl, inr, ◌≡◌, ◌∙◌, ℕ, zero, suc, ◌+◌, ◌-◌, ◌*◌, ◌<◌, ◌≤◌, List, [], ◌∷◌, ◌++◌, length, Some, slice_get, sum, refl, sym, ap, arith, append_assoc, append-nil, length-append}
+use Rattle.std.specs.Prelude.{slice_index_or}
+use Rattle.std.proofs.Math.Nat.{add-mul}
 use Rattle.std.proofs.lemmas.Bool.{cases_lt, lt-ltb, le-ltb}
 use Rattle.std.proofs.lemmas.List.{length-map}
 use Rattle.std.proofs.lemmas.List.Sums.{sum_by-append}
-use Rattle.cc_defs.specs.declared.node.Node.TheVariants as nodes
 use Rattle.cc_defs.specs.declared.signature.Const.{Const}
-use Rattle.cc_defs.specs.ClauseForms.{atom_variable, first_variable, true_variable}
+use Rattle.cc_defs.specs.ClauseForms.{first_variable}
 use Rattle.cc_defs.specs.Description.{domain_sizes}
 use Rattle.cc_defs.specs.Signatures.{Signature, ground_constants}
-use Rattle.cc_defs.specs.Terms.{Fits}
 use Rattle.cc_theory.specs.Making.{stride_of}
 use Rattle.cc_form.specs.Places.{position_sizes}
 use Rattle.cc_form.specs.Steps.{moved_variable}
 use Rattle.cc_form.specs.declared.moving.Move.{Move}
 use Rattle.cc_form.proofs.Histories.{domain_behind}
-use Rattle.cc_form.proofs.Positions.{atom_below, sum_cons}
-use Rattle.cc_form.proofs.Standing.{back, front}
+use Rattle.cc_form.proofs.Positions.{sum_cons}
 
 sum_two : (xs ys : List ℕ) → sum (xs ++ ys) ≡ sum xs + sum ys
 sum_two xs ys = sum_by-append (λ (n : ℕ). n) xs ys

@@ -1,5 +1,5 @@
 -- The clauses of rules are those of the steps of a horizon of two, moved.
-use Rattle.std.proofs.Common.{◌≡◌, ◌∙◌, ℕ, zero, suc, ◌+◌, ◌-◌, ◌*◌, ◌<◌, ◌≤◌, Bool, true, false, List, [], ◌∷◌, ◌++◌, length, map, flat_map, nat_lt, Some, slice_get, refl, sym, ap, subst, arith, append_assoc, append-nil, length-append}
+use Rattle.std.proofs.Common.{◌≡◌, ◌∙◌, ℕ, zero, suc, ◌+◌, ◌-◌, ◌*◌, ◌<◌, ◌≤◌, Bool, true, false, List, [], ◌∷◌, ◌++◌, length, map, flat_map, nat_lt, Some, slice_get, refl, sym, ap, arith, append_assoc, append-nil, length-append}
 use Rattle.std.specs.Prelude.{if◌then◌else◌, cond}
 use Rattle.std.specs.List.{filter, AllByRecursion}
 use Rattle.std.proofs.Math.Nat.{add-mul}
@@ -13,17 +13,16 @@ use Rattle.cc_defs.specs.declared.signature.Const.{Const}
 use Rattle.cc_defs.specs.declared.signature.Kind.{Kind}
 use Rattle.cc_defs.specs.declared.signature.Kind.TheVariants as kinds
 use Rattle.cc_defs.specs.ClauseForms.{all_written, atom_variable, positive, written}
-use Rattle.cc_defs.specs.ClauseLists.{Asserted, Bodied, MadeRules, bodies_of, completion_from, completion_of, denials_of, is_falsity, position_completion}
+use Rattle.cc_defs.specs.ClauseLists.{Bodied, MadeRules, bodies_of, completion_from, completion_of, denials_of, is_falsity, position_completion}
 use Rattle.cc_defs.specs.Clauses.{Literal, opposite}
 use Rattle.cc_defs.specs.Description.{domain_sizes}
 use Rattle.cc_defs.specs.Rules.{upto}
 use Rattle.cc_defs.specs.Signatures.{Signature, ground_constants}
 use Rattle.cc_theory.specs.declared.rule.TimedRule.{TimedRule}
-use Rattle.cc_theory.specs.Making.{all_initial, initial_of, initial_rule, rules_for, stride_of}
+use Rattle.cc_theory.specs.Making.{all_initial, initial_of, initial_rule, stride_of}
 use Rattle.cc_theory.specs.Theories.{GiveRules, plain_head, sizes_of_step}
-use Rattle.cc_form.specs.Making.{made_bodies, made_rule, rules_list}
+use Rattle.cc_form.specs.Making.{made_bodies, made_rule}
 use Rattle.cc_form.specs.Moving.{head_behind, renamed, renamed_bodied, renamed_clauses}
-use Rattle.cc_form.specs.Parts.{first_clauses}
 use Rattle.cc_form.specs.Places.{position_sizes}
 use Rattle.cc_form.specs.Steps.{bodies_at, bodies_of_step, completion_of_step, denials_of_step, placed}
 use Rattle.cc_form.proofs.Completing.{bodies_like}

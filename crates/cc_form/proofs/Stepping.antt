@@ -30,7 +30,7 @@ use Rattle.cc_theory.specs.Making.{all_initial, head_at, initial_of, initial_rul
 use Rattle.cc_theory.specs.Theories.{GiveRules, plain_head}
 use Rattle.cc_form.specs.Machine.{made_nodes, plain_made}
 use Rattle.cc_form.specs.Making.{IsBodyOver, body_of, head_nodes, made_bodies, made_rule}
-use Rattle.cc_form.specs.Moving.{renamed_bodied, renamed_clauses, renamed_rules, rule_behind, timed_behind, timed_head_behind}
+use Rattle.cc_form.specs.Moving.{renamed_bodied, renamed_rules, rule_behind, timed_behind, timed_head_behind}
 use Rattle.cc_form.specs.Places.{position_sizes}
 use Rattle.cc_form.specs.Steps.{bodies_at, move_at, moved_variable, own_variables, step_bodies, truth_at}
 use Rattle.cc_form.proofs.Behind.{bodies_renamed}

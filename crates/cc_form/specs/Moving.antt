@@ -1,5 +1,5 @@
 -- Clauses of a step of one horizon as those of a step of another: each variable is renamed, and each step of rules is a later one.
-use Rattle.std.specs.Prelude.{ℕ, ◌+◌, ◌*◌, List, map, Option}
+use Rattle.std.specs.Prelude.{ℕ, ◌+◌, ◌*◌, List, map}
 use Rattle.std.specs.Option.{option_map}
 use Rattle.cc_defs.specs.declared.node.GroundHead.{GroundHead}
 use Rattle.cc_defs.specs.declared.node.GroundHead.TheVariants as heads

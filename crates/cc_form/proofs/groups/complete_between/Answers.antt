@@ -1,4 +1,3 @@
-use Rattle.std.proofs.Common.{◌<◌, ℕ, List, length, subst}
 use Rattle.cc_form.specs.Making.{bodied}
 use Rattle.cc_form.proofs.Choices.{done_more}
 use Rattle.cc_form.proofs.Copying.{completion_within}

@@ -1,4 +1,4 @@
-use Rattle.std.proofs.Common.{◌≡◌, ℕ, Bor, Option, None, option_map, refl, subst}
+use Rattle.std.proofs.Common.{◌≡◌, ℕ, Bor, None, option_map, refl, subst}
 use Rattle.std.specs.Prelude.{IfErr, IfOk, OnOk}
 use Rattle.cc_defs.specs.declared.lists.Key.{Key}
 use Rattle.cc_defs.specs.ClauseLists.{clause_list}

@@ -1,12 +1,9 @@
-use Rattle.std.proofs.Common.{◌≡◌, ◌∙◌, ◌+◌, ◌-◌, ◌*◌, ◌≤◌, ℕ, List, refl, sym, ap, subst, arith}
+use Rattle.std.proofs.Common.{◌∙◌, ◌≤◌, ℕ, List, sym, ap, subst}
 use Rattle.cc_defs.specs.ClauseForms.{true_variable}
-use Rattle.cc_defs.specs.ClauseLists.{Asserted}
-use Rattle.cc_defs.specs.Clauses.{Literal}
 use Rattle.cc_theory.specs.Making.{rules_for, stride_of}
-use Rattle.cc_form.specs.Machine.{Adds, IsPast}
+use Rattle.cc_form.specs.Machine.{IsPast}
 use Rattle.cc_form.specs.Making.{rules_list}
 use Rattle.cc_form.specs.Parts.{first_clauses}
-use Rattle.cc_form.specs.Places.{position_sizes}
 use Rattle.cc_form.specs.Store.{Gives}
 use Rattle.cc_form.proofs.Joining.{atoms_below, can_place, clauses_given, last_same, over_steps}
 use Rattle.cc_form.proofs.Parts.{adds_err}
