@@ -10,9 +10,9 @@ use Rattle.cc_form.specs.Places.{position_sizes}
 use Rattle.cc_general.specs.Generals.{GeneralView, IsAmong, IsGeneralOf}
 use Rattle.cc_general.specs.Walks.{IsFormOf, IsListingAt}
 use Rattle.cc_query.specs.Parts.{open_section}
-use Rattle.cc_query.specs.Searches.{HasMore, SearchView, Stands}
 use Rattle.cc_query.proofs.Steps.{in_none}
 use Rattle.cc_rivals.specs.Wides.{AreWideLawsOf, candidates_refusal}
+use Rattle.cc_search.specs.Searches.{HasMore, SearchView, Stands}
 use Rattle.cc_wide.specs.WideLaws.{WideDescription, frame}
 use Rattle.cc_wide.specs.WideLists.{candidate_axioms}
 use Rattle.cc_wide.specs.WideRules.{IsCandidate}

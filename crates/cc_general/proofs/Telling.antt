@@ -29,14 +29,14 @@ use Rattle.cc_general.specs.Walks.{Comes, Gives, HaltsAt, IsListingAt, IsToldOf,
 use Rattle.cc_general.proofs.Candidates.{all_told, candidate, first_told, judged_more, none_told, told_below, untold}
 use Rattle.cc_general.proofs.Fairness.{ends_fair, passes_fair, range_is, shown_behind, shows_fair}
 use Rattle.cc_general.proofs.Walking.{all_append}
-use Rattle.cc_query.specs.declared.stage.Stage.{Stage}
-use Rattle.cc_query.specs.declared.stage.Stage.TheVariants as stages
 use Rattle.cc_query.specs.Parts.{rows_in, section_of}
-use Rattle.cc_query.specs.Searches.{HasMore, SearchView, phase_of}
-use Rattle.cc_query.specs.Searches as searches
 use Rattle.cc_query.specs.Lefts as lefts
 use Rattle.cc_query.proofs.Steps.{in_none}
 use Rattle.cc_rivals.specs.Wides.{HistoriesHaveNoRivals, candidates_refusal}
+use Rattle.cc_search.specs.declared.stage.Stage.{Stage}
+use Rattle.cc_search.specs.declared.stage.Stage.TheVariants as stages
+use Rattle.cc_search.specs.Searches.{HasMore, SearchView, phase_of}
+use Rattle.cc_search.specs.Searches as searches
 use Rattle.cc_wide.specs.WideLaws.{WideDescription, frame}
 use Rattle.cc_wide.specs.WideRules.{IsGeneral, IsRival}
 

@@ -25,16 +25,16 @@ use Rattle.cc_general.specs.GeneralRuns.{AreJudged}
 use Rattle.cc_general.specs.Generals.{GeneralView, IsAmong}
 use Rattle.cc_general.specs.Walks.{Comes, IsClosed, IsFormedOutcome, IsFound, IsJudged, IsListingAt, IsShownBy, IsSought, IsWalkFault, halt_of}
 use Rattle.cc_general.proofs.Candidates.{candidate, judged_pass, no_history, told_below, untold}
-use Rattle.cc_query.specs.declared.least.Outcome.{Outcome}
-use Rattle.cc_query.specs.declared.least.Outcome.TheVariants as outcomes
-use Rattle.cc_query.specs.declared.stage.Find.{Find}
-use Rattle.cc_query.specs.declared.stage.Find.TheVariants as finds
-use Rattle.cc_query.specs.Outcomes.{IsEnded, IsOutcome}
 use Rattle.cc_query.specs.Parts.{open_section, rows_in, section_lines, section_of, step_line}
-use Rattle.cc_query.specs.Searches.{GoesOn, HasMore, IsBehind, IsLineBehind, IsRightFault, IsShortFind, SearchView, Stands, found_behind, left_of, line_behind}
-use Rattle.cc_query.proofs.Moving.{first_moved, told_moved}
 use Rattle.cc_query.proofs.Steps.{in_first, rows_kept, rows_more}
 use Rattle.cc_rivals.specs.Wides.{AreWideLawsOf, HistoriesHaveNoRivals, rivals_refusal}
+use Rattle.cc_search.specs.declared.least.Outcome.{Outcome}
+use Rattle.cc_search.specs.declared.least.Outcome.TheVariants as outcomes
+use Rattle.cc_search.specs.declared.stage.Find.{Find}
+use Rattle.cc_search.specs.declared.stage.Find.TheVariants as finds
+use Rattle.cc_search.specs.Outcomes.{IsEnded, IsOutcome}
+use Rattle.cc_search.specs.Searches.{GoesOn, HasMore, IsBehind, IsLineBehind, IsRightFault, IsShortFind, SearchView, Stands, found_behind, left_of, line_behind}
+use Rattle.cc_search.proofs.Moving.{first_moved, told_moved}
 use Rattle.cc_wide.specs.WideLaws.{WideDescription, frame}
 use Rattle.cc_wide.specs.WideLists.{candidate_axioms, rival_axioms}
 use Rattle.cc_wide.specs.WideRules.{IsCandidate, IsRival}

@@ -24,9 +24,9 @@ use Rattle.cc_general.specs.GeneralRuns.{AreJudged, GeneralEnding, Complete, Ask
 use Rattle.cc_general.specs.GeneralTold.{ending_of}
 use Rattle.cc_query.specs.Accepted.{AreGoodAxioms}
 use Rattle.cc_query.specs.Parts.{section_lines}
-use Rattle.cc_query.specs.Searches.{SearchView}
-use Rattle.cc_query.specs.Searches as searches
 use Rattle.cc_rivals.specs.Wides.{AreWideLawsFor, AreWideLawsOf, candidates_refusal}
+use Rattle.cc_search.specs.Searches.{SearchView}
+use Rattle.cc_search.specs.Searches as searches
 use Rattle.cc_wide.specs.declared.ground.WideGroundLaw.{WideGroundLaw}
 use Rattle.cc_wide.specs.WideLaws.{WideDescription, frame}
 use Rattle.cc_wide.specs.WideLists.{candidate_axioms, rival_axioms}

@@ -27,12 +27,12 @@ use Rattle.cc_general.specs.declared.phase.Phase.TheVariants as phases
 use Rattle.cc_general.specs.GeneralRuns.{AreJudged, AreToldBelow, GeneralRun, HasManyCandidates, LooksForRival}
 use Rattle.cc_general.specs.Generals.{GeneralView, GoesOn, IsAmong, IsGeneralOf, IsGoodEvent, IsListing, IsWritable, Stands, TellsNext, left_of}
 use Rattle.cc_query.specs.Accepted.{AreGoodAxioms}
-use Rattle.cc_query.specs.declared.least.Outcome.{Outcome}
-use Rattle.cc_query.specs.declared.least.Outcome.TheVariants as outcomes
 use Rattle.cc_query.specs.Parts.{open_section, rows_in, section_lines, section_of}
-use Rattle.cc_query.specs.Searches.{SearchView}
-use Rattle.cc_query.specs.Searches as searches
 use Rattle.cc_rivals.specs.Wides.{AreWideLawsOf, candidates_refusal, rivals_refusal}
+use Rattle.cc_search.specs.declared.least.Outcome.{Outcome}
+use Rattle.cc_search.specs.declared.least.Outcome.TheVariants as outcomes
+use Rattle.cc_search.specs.Searches.{SearchView}
+use Rattle.cc_search.specs.Searches as searches
 use Rattle.cc_wide.specs.WideLaws.{WideDescription, frame}
 use Rattle.cc_wide.specs.WideLists.{candidate_axioms, rival_axioms}
 use Rattle.cc_wide.specs.WideRules.{IsCandidate, IsRival}

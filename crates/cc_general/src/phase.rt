@@ -1,6 +1,6 @@
 //! What comes next in a run over candidates.
 use cc_defs::LogLine;
-use cc_query::Search;
+use cc_search::Search;
 
 /// What comes next.
 #[derive(Drop)]

@@ -11,7 +11,6 @@ pub mod Reaching
 pub mod Refusing
 pub mod Rows
 pub mod Running
-pub mod Searching
 pub mod Shortness
 pub mod Steps
 pub mod Told
@@ -28,5 +27,3 @@ pub mod SameRows
 pub mod HorizonsAlike
 pub mod HorizonsSame
 pub mod SameRuns
-pub mod Finding
-pub mod Moving

@@ -146,9 +146,6 @@ pub record IsListingOn (Is : List ℕ → Type 0) (axioms : Axioms) (count : Opt
   pub may : IfSome count (λ most. length (rows_in steps) < most)
 
 module _ (laws : Laws) (Is : List ℕ → Type 0) (axioms : Axioms) (count : Option ℕ) (budget : ℕ) where
-  pub listing_begun : IfSome count (λ most. 0 < most) → IsListingOn Is axioms count budget [] axioms.clauses
-  listing_begun some = record { told = nothing_told laws Is axioms budget; may = some }
-
   -- of a section that has not ended, with no last row, or with one
   pub listing_on : (steps : List Step) → TellsRows Is axioms count budget (open_section steps) →
       (clauses : List (List Literal)) × IsListingOn Is axioms count budget steps clauses
@@ -175,14 +172,6 @@ module _ (laws : Laws) (Is : List ℕ → Type 0) (axioms : Axioms) (count : Opt
   )
 
   module _ (steps : List Step) (clauses : List (List Literal)) (is : IsListingOn Is axioms count budget steps clauses) where
-    pub listing_line : (clause : List Literal) (chain : List ℕ) → HasNoEmpty clauses → IsFairLine clauses clause chain →
-        counted_in steps + counted (Derive clause chain) ≤ budget →
-        IsListingOn Is axioms count budget (steps ++ Derive clause chain ∷ []) (clauses ++ clause ∷ [])
-    listing_line clause chain none line most = record {
-      told = line_told laws Is axioms budget steps clauses is.told clause chain none line most;
-      may = subst (λ (rows : List (List ℕ)). IfSome count (λ m. length rows < m)) (sym (rows_kept steps clause chain)) is.may;
-    }
-
     pub listing_open : TellsRows Is axioms count budget (open_section steps)
     listing_open =
         listing_so_far Is axioms count budget steps None (open_fair laws Is axioms budget steps clauses is.told None) is.told.first is.may

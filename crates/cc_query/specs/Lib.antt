@@ -2,7 +2,5 @@ pub mod Accepted
 pub mod Events
 pub mod Laws
 pub mod Lefts
-pub mod Outcomes
 pub mod Parts
-pub mod Searches
 pub mod Sessions

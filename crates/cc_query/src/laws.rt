@@ -23,7 +23,7 @@ pub fn texts_tell_runs()
 {}
 
 /// What searches rest on: resolvents follow, and a denied row is denied, and no other.
-pub(crate) fn search_laws()
+pub fn search_laws()
     ensures { SearchLaws }
 {
     resolvents_are_sound();

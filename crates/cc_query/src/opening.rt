@@ -71,7 +71,7 @@ pub fn form_at(
 }
 
 /// The search over clauses. It takes the place of the clauses.
-pub(crate) fn solver_of(alloc: Global, form: Form) -> Result<Solver, OutOfMemory>
+pub fn solver_of(alloc: Global, form: Form) -> Result<Solver, OutOfMemory>
     ensures sizes { IfOk result (λ solver. solver.sizes ≡ form.sizes) }
     ensures variables { IfOk result (λ solver. solver.kernel.variables ≡ form.variables) }
     ensures few { OnOk result (form.variables ≤ most_variables) }

@@ -12,7 +12,7 @@ use cc_kernel::Kernel;
 use std::alloc::{AllocError, Global};
 
 /// The line of the clause that was derived last.
-pub(crate) fn derived_line(alloc: Global, kernel: &Kernel) -> Result<LogLine, OutOfMemory>
+pub fn derived_line(alloc: Global, kernel: &Kernel) -> Result<LogLine, OutOfMemory>
     requires { 0 < length kernel.now.entries }
     ensures { (clause : List Literal) →
         IsNumbered (clauses_of kernel.now) (length kernel.now.entries) clause →
@@ -31,7 +31,7 @@ pub(crate) fn derived_line(alloc: Global, kernel: &Kernel) -> Result<LogLine, Ou
 }
 
 /// The line that denies a row, where the row was copied, and denied.
-pub(crate) fn block_line(
+pub fn block_line(
     row: Result<Vec<u32>, AllocError>,
     denied: Result<u32, OutOfMemory>,
 ) -> Result<LogLine, OutOfMemory>
@@ -49,14 +49,14 @@ pub(crate) fn block_line(
 }
 
 /// How many derived clauses a section may have.
-pub(crate) fn budget_of(ask: &Ask) -> u32
+pub fn budget_of(ask: &Ask) -> u32
     ensures { result ≡ ask.now.budget }
 {
     ask.budget
 }
 
 /// Whether just so many rows are asked for.
-pub(crate) fn is_asked(ask: &Ask, listed: u32) -> bool
+pub fn is_asked(ask: &Ask, listed: u32) -> bool
     ensures is { result ≡ true → ask.now.count ≡ Some listed }
     ensures other { result ≡ false → ask.now.count ≢ Some listed }
 {
@@ -67,7 +67,7 @@ pub(crate) fn is_asked(ask: &Ask, listed: u32) -> bool
 }
 
 /// Whether one of the clauses is empty.
-pub(crate) fn is_refuted(solver: &Solver) -> bool
+pub fn is_refuted(solver: &Solver) -> bool
     ensures some { result ≡ true → Contains (clauses_of solver.now.kernel) [] }
     ensures none { result ≡ false → HasNoEmpty (clauses_of solver.now.kernel) }
 {

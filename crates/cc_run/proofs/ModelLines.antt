@@ -11,8 +11,8 @@ use Rattle.cc_defs.specs.Rows.{IsRow}
 use Rattle.cc_defs.specs.Runs.{AreFairSteps, Derive, Section, Step, Tell, denied_rows, optional, row_told, rows_of}
 use Rattle.cc_defs.specs.Sections.{Axioms, row_denial}
 use Rattle.cc_query.specs.Parts.{open_section, section_of}
-use Rattle.cc_query.specs.Searches.{SearchView, Stands}
 use Rattle.cc_run.specs.ModelsTold.{AreWithin}
+use Rattle.cc_search.specs.Searches.{SearchView, Stands}
 use Rattle.cc_tell.specs.Tellers.{IsWritable}
 use Rattle.cc_list.proofs.GoodClauses.{IsGood, all_good, chain_good, clause_few, denial_good, in_first, in_rest}
 use Rattle.cc_list.proofs.NumberedSteps.{steps_few, told_count}

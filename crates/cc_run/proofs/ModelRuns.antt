@@ -20,7 +20,6 @@ use Rattle.cc_judge.specs.Single.{BlocksAll, subject_over}
 use Rattle.cc_ports.specs.Contents.{Contents}
 use Rattle.cc_ports.specs.Moments.{Moment}
 use Rattle.cc_print.specs.Models.{models_verdict_line}
-use Rattle.cc_query.proofs.Moving.{told_moved}
 use Rattle.cc_query.specs.Accepted.{AreGoodAxioms}
 use Rattle.cc_run.specs.CnfForms.{IsFormOf}
 use Rattle.cc_run.specs.Modes.Checking.{verdict_status}
@@ -30,6 +29,7 @@ use Rattle.cc_run.specs.ModelsTold.{AreWithin, EndsListing, TellsListing, told_o
 use Rattle.cc_list.specs.Promises.{IsEndStatus, Keeps, log_asked}
 use Rattle.cc_list.specs.Stops.{Prints, outcome}
 use Rattle.cc_list.specs.Wholes.{Whole}
+use Rattle.cc_search.proofs.Moving.{told_moved}
 use Rattle.cc_tell.specs.declared.status.Status.{Status}
 use Rattle.cc_tell.specs.declared.status.Status.TheVariants as statuses
 use Rattle.cc_tell.specs.declared.status.Stop.{Stop}

@@ -16,12 +16,12 @@ use Rattle.cc_defs.specs.Runs.{range_of}
 use Rattle.cc_defs.specs.Sections.{Axioms}
 use Rattle.cc_form.specs.Building.{count_refusal}
 use Rattle.cc_form.specs.Forms.{with_atom}
-use Rattle.cc_query.specs.declared.least.Outcome.{Outcome}
-use Rattle.cc_query.specs.declared.least.Outcome.TheVariants as outcomes
 use Rattle.cc_query.specs.Accepted.{AreGoodAxioms}
-use Rattle.cc_query.specs.Outcomes.{IsEnded, IsOutcome}
 use Rattle.cc_query.proofs.AcceptedLines.{all_append}
 use Rattle.cc_query.proofs.Steps.{in_first}
+use Rattle.cc_search.specs.declared.least.Outcome.{Outcome}
+use Rattle.cc_search.specs.declared.least.Outcome.TheVariants as outcomes
+use Rattle.cc_search.specs.Outcomes.{IsEnded, IsOutcome}
 use Rattle.cc_sure.specs.declared.answer.Answer.{Answer}
 use Rattle.cc_sure.specs.declared.answer.SureEvent.{SureEvent}
 use Rattle.cc_sure.specs.declared.answer.SureEvent.TheVariants as events

@@ -16,9 +16,9 @@ use Rattle.cc_defs.specs.Runs.{HasNone, TellsRows, axioms_of}
 use Rattle.cc_defs.specs.Sections.{Axioms}
 use Rattle.cc_form.specs.Building.{count_refusal}
 use Rattle.cc_form.specs.Forms.{TellsHistories, asked, form_of, section_refusal, with_atom}
-use Rattle.cc_query.proofs.Moving.{first_moved, told_moved}
-use Rattle.cc_query.specs.declared.least.Outcome.TheVariants as outcomes
-use Rattle.cc_query.specs.Outcomes.{IsEnded, IsOutcome}
+use Rattle.cc_search.proofs.Moving.{first_moved, told_moved}
+use Rattle.cc_search.specs.declared.least.Outcome.TheVariants as outcomes
+use Rattle.cc_search.specs.Outcomes.{IsEnded, IsOutcome}
 use Rattle.cc_sure.specs.Sought.{HasValue, IsSought, PassesNoLimit, Any, With}
 use Rattle.cc_sure.specs.SureRuns.{LooksFor}
 use Rattle.cc_sure.specs.Sures.{IsFormOf, IsSureOf, SureView}

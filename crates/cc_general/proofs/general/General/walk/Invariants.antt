@@ -1,6 +1,6 @@
 use Rattle.cc_general.proofs.Walking.{IsWalking}
-use Rattle.cc_query.specs.Searches.{left_of}
 use Rattle.cc_general.proofs.general.General.walk.Given as goal
+use Rattle.cc_search.specs.Searches.{left_of}
 
 abbrev pub invariant-loop-halt : goal.invariant-loop-halt
 invariant-loop-halt l = IsWalking l.self l.initial.search l.initial.lines.items l.search l.lines.items

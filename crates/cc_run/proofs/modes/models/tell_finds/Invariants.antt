@@ -1,6 +1,6 @@
-use Rattle.cc_query.specs.Searches.{left_of}
 use Rattle.cc_run.proofs.ModelFinds.{IsListing}
 use Rattle.cc_run.proofs.modes.models.tell_finds.Given as goal
+use Rattle.cc_search.specs.Searches.{left_of}
 
 abbrev pub invariant-loop-status : goal.invariant-loop-status
 invariant-loop-status g l =

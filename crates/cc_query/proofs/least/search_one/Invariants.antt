@@ -1,9 +1,0 @@
-use Rattle.cc_query.specs.Searches.{left_of}
-use Rattle.cc_query.proofs.Searching.{IsSearching}
-use Rattle.cc_query.proofs.least.search_one.Given as goal
-
-abbrev pub invariant-loop-outcome : goal.invariant-loop-outcome
-invariant-loop-outcome l = IsSearching l.fn.form l.budget l.search l.lines.items
-
-abbrev pub decreases-loop-outcome : goal.decreases-loop-outcome
-decreases-loop-outcome l = left_of l.search
