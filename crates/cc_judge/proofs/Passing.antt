@@ -177,7 +177,8 @@ as_err P (Err given) fault same holds = subst P (sym same) holds
 
 -- the axioms of a form are good, by what its type keeps
 pub form_good : (form now : Axioms) → form ≡ now → IsAxioms form → AreGoodAxioms now
-form_good form now same is = let done : Result (Unit {0}) (Unit {0}) = Ok tt in good_axioms done form now same is
+form_good form now same is =
+    let done : Result (Unit {0}) (Unit {0}) = Ok tt in subst AreGoodAxioms same (good_axioms done form form.clauses form.variables refl refl is.each is.over is.least)
 
 abbrev key_of : Option (Bor Key) → Option Key
 key_of after = option_map (λ (key : Bor Key). key.now) after
