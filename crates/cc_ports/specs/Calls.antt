@@ -48,3 +48,19 @@ pub record AreReadings (name : List ℕ) (most : ℕ) (calls : List Call) : Type
 pub record AreGivings (to : To) (calls : List Call) : Type 0 where
   pub parts : List (List ℕ)
   pub calls_are : calls ≡ map (Gives to) parts
+
+-- what a run does with a desk: it reads a file, in pieces of at most so many bytes each; it begins a log; or it gives bytes to an output
+pub data Act : Type 0 where
+  ReadsFile : (name : List ℕ) → (rooms : List ℕ) → Act
+  BeginsLog : (name : List ℕ) → Act
+  GivesBytes : (to : To) → (bytes : List ℕ) → Act
+
+abbrev pub calls_of : Act → List Call
+calls_of (ReadsFile name rooms) = Opens name ∷ map Reads rooms
+calls_of (BeginsLog name) = Begins name ∷ []
+calls_of (GivesBytes to bytes) = Gives to bytes ∷ []
+
+-- The calls are those of such acts, one after another, and no others: so nothing is read but a file that was just opened.
+pub record AreActs (calls : List Call) : Type 0 where
+  pub acts : List Act
+  pub calls_are : calls ≡ flat_map calls_of acts

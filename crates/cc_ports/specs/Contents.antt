@@ -4,7 +4,8 @@ use Rattle.cc_ports.specs.declared.desk.Failed.{Failed}
 use Rattle.cc_ports.specs.declared.desk.To.{To}
 use Rattle.cc_ports.specs.declared.desk.To.TheVariants as outputs
 
--- the files by name, what is left of the file being read, what was written, and whether Log keeps what is given to it or drops it
+-- the files by name, what is left of the file being read, what was written, and whether Log keeps what is given to it or drops it;
+-- it keeps what is given to it once a log was begun
 pub record Contents : Type 0 where
   pub files : List ℕ → Option (List ℕ)
   pub rest : List ℕ
@@ -31,9 +32,9 @@ pub record ReadsFrom (rest : List ℕ) (n : ℕ) (buffer : List ℕ) : Type 0 wh
   pub front : take n buffer ≡ take n rest
   pub end : n ≡ 0 → rest ≡ []
 
--- after a log was begun, or was not
+-- after a log was begun, which keeps what is given to it; or it was not
 abbrev pub after_create : Bool → Contents → Contents
-after_create true c = record c { log = [] }
+after_create true c = record c { log = []; keeps = true }
 after_create false c = c
 
 -- what was written to an output

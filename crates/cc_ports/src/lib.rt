@@ -3,9 +3,10 @@
 #![tactic(auto)]
 
 mod desk;
+mod log_file;
 mod real;
 mod whole;
 
 pub use desk::{Desk, Failed, To};
-pub use real::RealDesk;
+pub use real::{RealDesk, StandardStreams};
 pub use whole::{ReadStop, give_all, read_all};
