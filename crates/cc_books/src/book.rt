@@ -1,6 +1,6 @@
 //! The cases of a book, and the files of a case.
 use cc_defs::{Bytes, Name, OutOfMemory};
-use cc_desks::Files;
+use cc_ports::Files;
 use std::alloc::Global;
 
 /// What a line that begins a case begins with.

@@ -18,10 +18,10 @@ use cc_arena::{GroundQuery, Laws, Terms};
 use cc_books::{bytes_named, files, head, parts};
 use cc_defs::{Nums, OutOfMemory, Query, Sig};
 use cc_describe::{DescribeStop, Described, Heads, describe};
-use cc_desks::{Files, MemoryDesk};
 use cc_form::Form;
 use cc_laws::query_steps;
 use cc_list::{laws_of, query_of};
+use cc_ports::{Files, MemoryDesk};
 use std::alloc::Global;
 
 /// The most bytes that a read gives.

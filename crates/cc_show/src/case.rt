@@ -11,7 +11,7 @@ use crate::trees::show_trees;
 use cc_books::{files, head, parts};
 use cc_defs::{Nums, OutOfMemory};
 use cc_describe::{DescribeStop, Described, Heads, describe};
-use cc_desks::{Files, MemoryDesk};
+use cc_ports::{Files, MemoryDesk};
 use std::alloc::Global;
 
 /// The most bytes that a read gives.

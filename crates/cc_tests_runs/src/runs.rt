@@ -10,11 +10,10 @@ use cc_defs::{
     Term,
 };
 use cc_describe::{DescribeStop, Described, Heads, describe};
-use cc_desks::{Files, MemoryDesk};
 use cc_ground::ground;
 use cc_laws::{classify, definite};
 use cc_list::run_list;
-use cc_ports::{RealDesk, To};
+use cc_ports::{Files, MemoryDesk, RealDesk, To};
 use cc_run::{Status, run, run_still};
 use std::alloc::Global;
 use std::test::Fail;

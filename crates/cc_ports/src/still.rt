@@ -1,9 +1,9 @@
 //! A desk that never fails.
 ghost use Rattle.std.specs.Prelude.{◌≡◌, ◌<◌, min, true, false, [], length, take, drop, unwrap_or, IfOk, IsOk};
-ghost use Rattle.cc_desks.specs.Memory.{file_in};
+ghost use Rattle.cc_ports.specs.Memory.{file_in};
 
 use crate::files::Files;
-use cc_ports::{Desk, Failed, To};
+use crate::{Desk, Failed, To};
 use std::marker::Model;
 
 /// Reads the files of its list; a name that is not there is an empty file. It drops what it is given, tells nothing of
@@ -19,11 +19,11 @@ pub struct StillDesk {
 }
 
 impl Model for StillDesk {
-    ghost use Rattle.cc_desks.specs.Still.{Still};
+    ghost use Rattle.cc_ports.specs.Still.{Still};
 
     ghost Value = { Still };
 
-    ghost use Rattle.cc_desks.specs.MemoryFields.{rest_of};
+    ghost use Rattle.cc_ports.specs.MemoryFields.{rest_of};
 
     ghost view = { λ desk. record {
       files = desk.files;

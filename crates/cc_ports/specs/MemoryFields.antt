@@ -1,7 +1,7 @@
 -- The fields of a desk in memory.
 use Rattle.std.specs.Prelude.{ℕ, ◌<◌, List, [], drop, Option, Some, None}
-use Rattle.cc_desks.specs.Memory.{Memory, bytes_at}
-use Rattle.cc_desks.specs.declared.memory.MemoryDesk.TheInside.{Inside}
+use Rattle.cc_ports.specs.Memory.{Memory, bytes_at}
+use Rattle.cc_ports.specs.declared.memory.MemoryDesk.TheInside.{Inside}
 
 -- what is left of the file being read
 abbrev pub rest_of : List (List ℕ × List ℕ) → Option ℕ → ℕ → List ℕ

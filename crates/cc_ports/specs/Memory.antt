@@ -5,7 +5,7 @@ use Rattle.std.specs.Cmp.Lexicographic.{pointwise}
 use Rattle.cc_ports.specs.declared.desk.To.{To}
 use Rattle.cc_ports.specs.declared.desk.To.TheVariants as outputs
 use Rattle.cc_ports.specs.Contents.{Contents, output_of}
-use Rattle.cc_desks.specs.Sheet.{Sheet}
+use Rattle.cc_ports.specs.Sheet.{Sheet}
 
 -- the place of the first file of this name
 abbrev pub place_in : List (List ℕ × List ℕ) → List ℕ → Option ℕ
@@ -52,6 +52,10 @@ new_memory files fails most room = record {
 
 abbrev pub contents_of : Memory → Contents
 contents_of m = record { files = file_in m.files; rest = m.rest; out = m.out.bytes; err = m.err.bytes; log = m.log.bytes; keeps = true }
+
+-- the same where what is given to Log is dropped until a log was begun
+abbrev pub dropping_contents_of : Memory → Contents
+dropping_contents_of m = record (contents_of m) { keeps = m.begun }
 
 abbrev pub room_of : To → Memory → ℕ
 room_of outputs.Out m = m.out.room

@@ -1,12 +1,12 @@
 //! A desk in memory, whose calls fail where they are told to.
 ghost use Rattle.std.specs.Prelude.{◌≡◌, ℕ, ◌-◌, ◌<◌, ◌≤◌, ◌⊎◌, ◌↔◌, min, Bool, true, false, List, length, Option, option_map, Some, None, IfOk, OnOk, OnErr, IfSome, IsSome, IsNone, IsErr, IsTrue, is_ok, if◌then◌else◌};
 ghost use Rattle.cc_ports.specs.Contents.{Contents, with_rest, content_of, after_read, ReadsFrom, after_create, after_give, output_of, Rose};
-ghost use Rattle.cc_desks.specs.Memory.{Memory, new_memory, contents_of, file_in, room_of, next, CallFails, IsFull, KeepsSetting};
+ghost use Rattle.cc_ports.specs.Memory.{Memory, new_memory, contents_of, file_in, room_of, next, CallFails, IsFull, KeepsSetting};
 
 use crate::files::Files;
 use crate::sheet::Sheet;
 use cc_defs::{Nums, OutOfMemory};
-use cc_ports::{Desk, Failed, To};
+use crate::{Desk, Failed, To};
 use std::alloc::Global;
 use std::marker::Model;
 
@@ -32,11 +32,11 @@ pub struct MemoryDesk {
 }
 
 impl Model for MemoryDesk {
-    ghost use Rattle.cc_desks.specs.Memory.{Memory};
+    ghost use Rattle.cc_ports.specs.Memory.{Memory};
 
     ghost Value = { Memory };
 
-    ghost use Rattle.cc_desks.specs.MemoryFields.{memory_of, IsKept};
+    ghost use Rattle.cc_ports.specs.MemoryFields.{memory_of, IsKept};
 
     ghost view = { memory_of };
 

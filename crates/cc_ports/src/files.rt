@@ -1,6 +1,6 @@
 //! Files in memory.
 ghost use Rattle.std.specs.Prelude.{◌≡◌, ◌+◌, ◌-◌, min, length, take, drop};
-ghost use Rattle.cc_desks.specs.Memory.{place_in, bytes_at};
+ghost use Rattle.cc_ports.specs.Memory.{place_in, bytes_at};
 
 use cc_defs::{Bytes, Name};
 use std::marker::Model;

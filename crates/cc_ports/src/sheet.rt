@@ -2,7 +2,7 @@
 ghost use Rattle.std.specs.Prelude.{◌≡◌, ◌-◌, ◌≤◌, ◌<◌, ◌↔◌, min, [], ◌++◌, length, take, IfOk, OnOk, OnErr, IsErr};
 
 use cc_defs::OutOfMemory;
-use cc_ports::Failed;
+use crate::Failed;
 use std::alloc::Global;
 use std::marker::Model;
 
@@ -15,7 +15,7 @@ pub(crate) struct Sheet {
 
 impl Model for Sheet {
     ghost use Rattle.std.specs.Prelude.{◌≤◌, vec_len, vec_capacity};
-    ghost use Rattle.cc_desks.specs.Sheet.{Sheet as Written};
+    ghost use Rattle.cc_ports.specs.Sheet.{Sheet as Written};
 
     ghost Value = { Written };
 

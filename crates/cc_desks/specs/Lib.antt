@@ -1,4 +1,0 @@
-pub mod Memory
-pub mod MemoryFields
-pub mod Sheet
-pub mod Still
