@@ -6,7 +6,7 @@ use Rattle.cc_defs.specs.Limits.{limit_number}
 use Rattle.cc_defs.specs.declared.refusal.Fault.{Fault}
 use Rattle.cc_defs.specs.declared.refusal.Fault.TheVariants as faults
 use Rattle.cc_defs.specs.declared.refusal.LimitAt.TheVariants.{IncludeDepth}
-use Rattle.cc_ports.specs.Calls.{Call, names_begun, names_opened, with_calls}
+use Rattle.cc_ports.specs.Calls.{AreActs, Call, names_begun, names_opened, with_calls}
 use Rattle.cc_ports.specs.Contents.{Contents}
 use Rattle.cc_sorts.specs.Tables.{IsRefusedSignature}
 use Rattle.cc_describe.specs.declared.heads.Heads.{Heads}
@@ -154,12 +154,13 @@ opens_all which files name names (Err stops.OutOfMemory) all = (names, all, ([],
 -- the calls of the desk, where the names kept are these
 pub as_called : (which : Heads) (told : Option Contents) (name : List ℕ) (result : Result Described DescribeStop) {old new : List (List ℕ)} {before after : Option (List Call)} → old ≡ []
     → OpensAsKept old new before after → IfSome told (λ contents. OpensFor which contents.files name result new)
-    → (more : List Call) × (after ≡ with_calls more before) × (names_begun more ≡ []) × IfSome told (λ contents. OpensFor which contents.files name result (names_opened more))
+    → (more : List Call) × (after ≡ with_calls more before) × (names_begun more ≡ []) × IfSome told (λ contents. OpensFor which contents.files name result (names_opened more)) × AreActs more
 as_called which told name result none kept opens = (
   kept.more,
   kept.calls,
   kept.begun,
   subst (λ l. IfSome told (λ contents. OpensFor which contents.files name result l)) (kept.names ∙ ap (λ l. l ++ names_opened kept.more) none) opens,
+  kept.acts,
 )
 
 -- nothing was opened

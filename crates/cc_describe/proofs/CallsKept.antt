@@ -2,6 +2,7 @@
 use Rattle.std.proofs.Common.{◌≡◌, ◌∙◌, ℕ, List, [], ◌∷◌, ◌++◌, map, Option, Some, None, refl, sym, ap, append_assoc, append-nil}
 use Rattle.std.proofs.lemmas.Grind.{flat_map-append}
 use Rattle.std.proofs.lemmas.List.Concat.{flat_map-cons}
+use Rattle.cc_ports.proofs.Acts.{acts_both, acts_none, acts_read}
 use Rattle.cc_ports.specs.Calls.{Call, Opens, Reads, AreReadings, name_begun, name_opened, names_begun, names_opened, with_calls}
 use Rattle.cc_describe.specs.ProgressViews.{OpensAsKept}
 
@@ -16,7 +17,7 @@ more_calls first second (Some calls) between after is then_is = then_is ∙ ap (
 
 -- no file is opened
 pub keeps_names : {old new : List (List ℕ)} (calls : Option (List Call)) → new ≡ old → OpensAsKept old new calls calls
-keeps_names {old} calls same = record { more = []; names = same ∙ sym (append-nil old); begun = refl; calls = no_calls calls }
+keeps_names {old} calls same = record { more = []; names = same ∙ sym (append-nil old); begun = refl; calls = no_calls calls; acts = acts_none }
 
 -- and then others
 pub keeps_more : {old now new : List (List ℕ)} {before between after : Option (List Call)} → OpensAsKept old now before between → OpensAsKept now new between after
@@ -27,11 +28,12 @@ keeps_more {old} {now} {new} {before} {between} {after} first second = record {
       ∙ ap (λ l. old ++ l) (sym (flat_map-append name_opened first.more second.more));
   begun = flat_map-append name_begun first.more second.more ∙ ap (λ l. l ++ names_begun second.more) first.begun ∙ second.begun;
   calls = more_calls first.more second.more before between after first.calls second.calls;
+  acts = acts_both first.more second.more first.acts second.acts;
 }
 
 -- with the names as they are kept afterwards
 pub keeps_as : {old now new : List (List ℕ)} {before after : Option (List Call)} → OpensAsKept old now before after → new ≡ now → OpensAsKept old new before after
-keeps_as kept same = record { more = kept.more; names = same ∙ kept.names; begun = kept.begun; calls = kept.calls }
+keeps_as kept same = record { more = kept.more; names = same ∙ kept.names; begun = kept.begun; calls = kept.calls; acts = kept.acts }
 
 reads_open_none : (rooms : List ℕ) → names_opened (map Reads rooms) ≡ []
 reads_open_none [] = refl
@@ -50,4 +52,5 @@ keeps_read {old} name most named (more, are, calls) = record {
       ∙ ap (λ l. old ++ l) (sym (ap names_opened are.calls_are ∙ flat_map-cons name_opened (Opens name) (map Reads are.rooms) ∙ ap (λ l. name ∷ l) (reads_open_none are.rooms)));
   begun = ap names_begun are.calls_are ∙ flat_map-cons name_begun (Opens name) (map Reads are.rooms) ∙ reads_begin_none are.rooms;
   calls = calls;
+  acts = acts_read name most more are;
 }

@@ -11,7 +11,7 @@ use Rattle.cc_defs.specs.Trees as trees
 use Rattle.cc_laws.specs.Expansion.{base_laws}
 use Rattle.cc_laws.specs.Vocabulary.{vocabulary}
 use Rattle.cc_laws.specs.Widening.{wide_laws}
-use Rattle.cc_ports.specs.Calls.{Call, names_begun, names_opened, with_calls}
+use Rattle.cc_ports.specs.Calls.{AreActs, Call, names_begun, names_opened, with_calls}
 use Rattle.cc_sorts.specs.Tables.{IsTable}
 use Rattle.cc_wide.specs.WideLaws.{plain_wide_base}
 use Rattle.cc_describe.specs.declared.description.DescribeStop.{DescribeStop}
@@ -114,12 +114,14 @@ FindsFiles files (Err (halts.Refused refusal)) names = AreThere files names
 FindsFiles files (Err halts.ReadFault) names = Unit {0}
 FindsFiles files (Err halts.OutOfMemory) names = Unit {0}
 
--- The calls of the desk open each file whose name is kept behind the earlier ones, in order, and no other; they begin no log.
+-- The calls of the desk open each file whose name is kept after the earlier ones, in order, and no other, and read it when they have
+-- opened it; they begin no log.
 pub record OpensAsKept (old new : List (List ℕ)) (before after : Option (List Call)) : Type 0 where
   pub more : List Call
   pub names : new ≡ old ++ names_opened more
   pub begun : names_begun more ≡ []
   pub calls : after ≡ with_calls more before
+  pub acts : AreActs more
 
 -- why a description stops, with the name of the file that a refusal speaks of
 abbrev pub StopsAs : List (List ℕ) → Halt → DescribeStop → Type 0

@@ -1,7 +1,7 @@
 //! Descriptions: a file with the files that it includes, as a table of names, a signature, base laws and queries.
 ghost use Rattle.std.specs.Prelude.{◌≡◌, ◌≢◌, ◌≤◌, ℕ, List as Items, None, option_map, IfOk, IfErr, IfSome, IsErrOf, []};
 ghost use Rattle.cc_defs.specs.DeclarationFaults.{signature_refusal};
-ghost use Rattle.cc_ports.specs.Calls.{Call, names_begun, names_opened, with_calls};
+ghost use Rattle.cc_ports.specs.Calls.{AreActs, Call, names_begun, names_opened, with_calls};
 ghost use Rattle.cc_ports.specs.Contents.{with_rest, Rose};
 ghost use Rattle.cc_describe.specs.Describing.{AsksFormulas, Describes, HasForms, HasStopped, HasWideForms, IsDescribed, IsOfSome, IsRefusedWhole, OpensFor, SaysAll};
 ghost use Rattle.cc_describe.specs.declared.heads.Heads.{Heads as Which};
@@ -76,11 +76,12 @@ pub fn describe<D: Desk>(
     ensures after { (rest : Items ℕ) × ((D.seen desk.new).told
         ≡ option_map (with_rest rest) (D.seen desk.old).told) }
     ensures begun { (D.seen desk.new).begun ≡ (D.seen desk.old).begun }
-    // The names that are opened are those of its files, in their order, and no others; no log is begun.
+    // The names that are opened are those of its files, in their order, and no others, and each file is read when it was opened; no
+    // log is begun.
     ensures calls { (more : Items Call) × ((D.seen desk.new).calls
         ≡ with_calls more (D.seen desk.old).calls) × (names_begun more ≡ [])
         × IfSome (D.seen desk.old).told (λ contents. OpensFor heads contents.files name.now result
-        (names_opened more)) }
+        (names_opened more)) × AreActs more }
     // Where no fault is answered, the desk counted none.
     ensures calm { (IsErrOf result DescribeStop.ReadFault → ⊥) →
         ((D.seen desk.new).reads ≡ (D.seen desk.old).reads)

@@ -6,7 +6,8 @@ use Rattle.cc_describe.specs.declared.description.Described.{Described}
 use Rattle.cc_describe.specs.declared.description.DescribeStop.{DescribeStop}
 use Rattle.cc_describe.specs.declared.description.DescribeStop.TheVariants as describe_stops
 use Rattle.cc_describe.specs.Describing.{AreFirstNames}
-use Rattle.cc_ports.specs.Calls.{AreReadings, Call, Reads, names_begun, names_opened, with_calls}
+use Rattle.cc_ports.proofs.Acts.{acts_read}
+use Rattle.cc_ports.specs.Calls.{AreActs, AreReadings, Call, Reads, names_begun, names_opened, with_calls}
 use Rattle.cc_ports.specs.declared.whole.ReadStop.{ReadStop}
 use Rattle.cc_ports.specs.declared.whole.ReadStop.TheVariants as read_stops
 use Rattle.cc_ports.specs.Moments.{Moment}
@@ -53,6 +54,7 @@ called_reads name most x y made = record {
   calls = made.2;
   opened_are = ap (λ (l : List Call). names_opened l) made.1.calls_are ∙ ap (λ (l : List Text). name ∷ l) (reads_opened made.1.rooms);
   begun_are = ap (λ (l : List Call). names_begun l) made.1.calls_are ∙ reads_begun made.1.rooms;
+  acts = acts_read name most made.0 made.1;
 }
 
 -- ---- what is asked for
@@ -117,8 +119,8 @@ told_ends_nothing stop x y status tells = how tells.how
 -- ---- a description that was read
 
 -- what `describe` says of its calls
-pub called_reading : (x y : Moment) (more : List Call) → y.calls ≡ with_calls more x.calls → names_begun more ≡ [] → Called (names_opened more) [] x y
-called_reading x y more calls begun = record { more = more; calls = calls; opened_are = refl; begun_are = begun }
+pub called_reading : (x y : Moment) (more : List Call) → y.calls ≡ with_calls more x.calls → names_begun more ≡ [] → AreActs more → Called (names_opened more) [] x y
+called_reading x y more calls begun acts = record { more = more; calls = calls; opened_are = refl; begun_are = begun; acts = acts }
 
 abbrev stopped : DescribeStop → Result Described DescribeStop
 stopped stop = Err stop

@@ -9,8 +9,8 @@ use Rattle.cc_defs.specs.declared.refusal.Refusal.{Refusal}
 use Rattle.cc_defs.specs.Runs.{Claim, Conditions, Failure, Histories, Horizon, IsFairRun, IsTrueOf, MayEnd, MayEndWithin, Run, first_horizon, horizon_at, last_horizon, optional, rows_of}
 use Rattle.cc_describe.specs.Describing.{AreFirstNames}
 use Rattle.cc_describe.specs.Places.{Files}
-use Rattle.cc_ports.specs.Calls.{Call, names_begun, names_opened, with_calls}
-use Rattle.cc_ports.specs.Contents.{Contents, Rose, IsPrefix, kept_behind, with_rest}
+use Rattle.cc_ports.specs.Calls.{AreActs, Call, names_begun, names_opened, with_calls}
+use Rattle.cc_ports.specs.Contents.{Contents, Rose, IsPrefix, keeping, kept_behind, with_rest}
 use Rattle.cc_ports.specs.declared.desk.To.TheVariants as outputs
 use Rattle.cc_ports.specs.Moments.{Moment}
 use Rattle.cc_list.specs.Answers.{Answered, Answers, Counts, Ended, GaveSoFar, RoseTwice, counts, left_in}
@@ -75,20 +75,27 @@ abbrev pub Comes : Files → Promise → Left → Result Status Stop → Type 0
 Comes files promise left r = MatchResult r (λ status. Ended files promise status left) (λ _. GaveSoFar files promise left)
 
 comes_over : (promise : Promise) (c : Contents) (given : Given) (begun : Bool) (r : Result Status Stop) → IsFresh c → Comes c.files promise (left given begun) r →
-    Leaves promise c (adding given c) begun r
-comes_over promise c given begun r fresh how = record {
+    Leaves promise c (adding given (keeping begun c)) begun r
+comes_over promise c given true r fresh how = record {
+  files = refl;
+  log = given.log;
+  logged = ap (λ (log : List ℕ). log ++ given.log) fresh.log;
+  how = subst (λ l. Comes c.files promise l r) (sym (fresh_left c given true fresh)) how;
+}
+comes_over promise c given false r fresh how = record {
   files = refl;
   log = given.log;
   logged = ap (λ (log : List ℕ). kept_behind c.keeps log given.log) fresh.log;
-  how = subst (λ l. Comes c.files promise l r) (sym (fresh_left c given begun fresh)) how;
+  how = subst (λ l. Comes c.files promise l r) (sym (fresh_left c given false fresh)) how;
 }
 
-told_given : (promise : Promise) (given : Given) (old new : Option Contents) (was begun : Bool) (r : Result Status Stop) → new ≡ option_map (adding given) old →
+told_given : (promise : Promise) (given : Given) (old new : Option Contents) (was begun : Bool) (r : Result Status Stop) → begun ≡ was → new ≡ option_map (adding given) old →
     IfSome old (λ before. was ≡ false → Comes before.files promise (left given begun) r) →
     IfSome old (λ before. IsFresh before → was ≡ false → IsSomeAnd new (λ after. Leaves promise before after begun r))
-told_given promise given None new was begun r told how = tt
-told_given promise given (Some c) new was begun r told how = λ fresh none.
-    subst (λ (n : Option Contents). IsSomeAnd n (λ after. Leaves promise c after begun r)) (sym told) (comes_over promise c given begun r fresh (how none))
+told_given promise given None new was begun r same told how = tt
+told_given promise given (Some c) new was begun r same told how = λ fresh none.
+    let over = subst (λ (b : Bool). Leaves promise c (adding given (keeping b c)) begun r) (same ∙ none) (comes_over promise c given begun r fresh (how none))
+    in subst (λ (n : Option Contents). IsSomeAnd n (λ after. Leaves promise c after begun r)) (sym told) over
 
 -- what is known of a moment holds of all that follows from it
 pub known : (o : Option Contents) (P Q : Contents → Type 0) → ((c : Contents) → P c → Q c) → IfSome o P → IfSome o Q
@@ -114,7 +121,7 @@ pub prints_whole : (promise : Promise) (begins : Bool) (opens : List Text) (whol
     IfSome x.told (λ c. Keeps promise c.files whole) → whole.begun ≡ false → Step whole.given x z r → IfOk r (λ status. whole.ends ≡ Some status) →
     IfOk r (promise.MayEnd) → Asks opens (log_asked promise) x z r → Prints promise begins opens x z r
 prints_whole promise begins opens whole x z r gives unbegun step ended may asks = record {
-  told = told_given promise step.given x.told z.told x.begun z.begun r step.moves.told
+  told = told_given promise step.given x.told z.told x.begun z.begun r step.moves.begun step.moves.told
       (known x.told (λ c. Keeps promise c.files whole) (λ c. x.begun ≡ false → Comes c.files promise (left step.given z.begun) r)
       (λ c gives none. whole_comes c.files promise whole step.given z.begun r gives (step.moves.begun ∙ (none ∙ sym unbegun)) step.how ended) gives);
   ends = may;
@@ -195,7 +202,8 @@ refused_known (Some c) promise refusal file refused = refused c.files
 
 leaves_read : (promise : Promise) (rest : List ℕ) (c after : Contents) (begun : Bool) (r : Result Status Stop) → Leaves promise (with_rest rest c) after begun r →
     Leaves promise c after begun r
-leaves_read promise rest c after begun r over = record { files = over.files; log = over.log; logged = over.logged; how = over.how }
+leaves_read promise rest c after true r over = record { files = over.files; log = over.log; logged = over.logged; how = over.how }
+leaves_read promise rest c after false r over = record { files = over.files; log = over.log; logged = over.logged; how = over.how }
 
 told_read : (promise : Promise) (rest : List ℕ) (old mid new : Option Contents) (was at begun : Bool) (r : Result Status Stop) → mid ≡ option_map (with_rest rest) old → at ≡ was →
     IfSome mid (λ before. IsFresh before → at ≡ false → IsSomeAnd new (λ after. Leaves promise before after begun r)) →
@@ -239,7 +247,7 @@ leaves_nothing : (promise : Promise) (before c : Contents) (begun : Bool) (stop 
 leaves_nothing promise before c begun stop files fresh none = record {
   files = files;
   log = [];
-  logged = fresh.log ∙ sym (kept-nothing before.keeps []);
+  logged = fresh.log ∙ sym (kept-nothing (keeping begun before).keeps []);
   how = inl (fresh_nothing c fresh, none);
 }
 
@@ -401,13 +409,20 @@ told_with manner task run given ends begun told = record {
   ends = told.ends;
 }
 
+-- what a log that was begun keeps, by whether one was begun in the end
+pub keeps_begun : (old mid : Option Contents) (named was begun : Bool) → (was ≡ false → named ≡ begun) → IfSome old (λ before. IsFresh before → mid ≡ Some (keeping named before)) →
+    IfSome old (λ before. IsFresh before → was ≡ false → mid ≡ Some (keeping begun before))
+keeps_begun old mid named was begun same =
+    known old (λ before. IsFresh before → mid ≡ Some (keeping named before)) (λ before. IsFresh before → was ≡ false → mid ≡ Some (keeping begun before))
+    (λ before there fresh none. there fresh ∙ ap (λ (b : Bool). Some (keeping b before)) (same none))
+
 pub told_search : (promise : Promise) (given : Given) (old mid new : Option Contents) (was begun : Bool) (r : Result Status Stop) →
-    IfSome old (λ before. IsFresh before → mid ≡ Some before) → new ≡ option_map (adding given) mid →
+    IfSome old (λ before. IsFresh before → was ≡ false → mid ≡ Some (keeping begun before)) → new ≡ option_map (adding given) mid →
     IfSome old (λ before. was ≡ false → Comes before.files promise (left given begun) r) →
     IfSome old (λ before. IsFresh before → was ≡ false → IsSomeAnd new (λ after. Leaves promise before after begun r))
 told_search promise given None mid new was begun r told moves how = tt
 told_search promise given (Some c) mid new was begun r told moves how = λ fresh none.
-    subst (λ (n : Option Contents). IsSomeAnd n (λ after. Leaves promise c after begun r)) (sym (moves ∙ ap (option_map (adding given)) (told fresh)))
+    subst (λ (n : Option Contents). IsSomeAnd n (λ after. Leaves promise c after begun r)) (sym (moves ∙ ap (option_map (adding given)) (told fresh none)))
     (comes_over promise c given begun r fresh (how none))
 
 search_may : (promise : Promise) (begins : Bool) (names : List Text) (manner : Manner) (task : Task) (x : Moment) (run : Run) (whole : Whole) (r : Result Status Stop) →
@@ -425,7 +440,8 @@ prints_begun {X = X} promise begins names whole x y z b v r right answers gives 
     let done : Begins begins names x y made = subst (λ b. Begins begins names x y b) is at in
     let moves = step.moves in
     record {
-      told = told_search promise step.given x.told y.told z.told x.begun z.begun r done.told moves.told
+      told = told_search promise step.given x.told y.told z.told x.begun z.begun r
+          (keeps_begun x.told y.told begins x.begun z.begun (begun_as begins x.begun y.begun z.begun done.begun moves.begun) done.told) moves.told
           (known x.told (λ before. Keeps promise before.files whole) (λ before. x.begun ≡ false → Comes before.files promise (left step.given z.begun) r)
           (λ before gives none. whole_comes before.files promise whole step.given z.begun r gives (sym (same ∙ begun_as begins x.begun y.begun z.begun done.begun moves.begun none)) step.how ended)
           gives);
@@ -585,7 +601,7 @@ over_stopped promise begins opens stop status x y z before (Some m) is prints te
     subst Done (sym (tells.told ∙ ap (option_map (adding (given_to outputs.Err tells.line))) is)) (record {
       files = over.files;
       log = over.log;
-      logged = kept-nothing m.keeps m.log ∙ over.logged;
+      logged = kept-nothing m.keeps m.log ∙ over.logged ∙ ap (λ (b : Bool). kept_behind (keeping b before).keeps [] over.log) (sym tells.begun);
       answer = cut_short stop status x y z tells.line prints.reads prints.writes tells.reads tells.writes
           (λ same. prints.read_fault (ap Err same)) (λ same. prints.write_fault (ap Err same)) tells.how
           before.files promise (left_in (adding (given_to outputs.Err tells.line) m) over.log z.begun) (left_in m over.log y.begun) over.how
@@ -607,7 +623,7 @@ run_stopped promise begins opens stop status x y z prints tells =
 abbrev pub NamesAsked : Promise → Moment → Moment → Status → Type 0
 NamesAsked promise x z status =
     (more : List Call) × (z.calls ≡ with_calls more x.calls) × BeginsAsked promise status (names_begun more)
-    × IfSome x.told (λ before. OpensAsked before.files promise status (names_opened more))
+    × IfSome x.told (λ before. OpensAsked before.files promise status (names_opened more)) × AreActs more
 
 run_names : (promise : Promise) (begins : Bool) (x y z : Moment) (r : Result Status Stop) (status : Status) → (asked : PrintsAsked promise begins x y r) →
     Called asked.prints.asks.opened asked.prints.asks.begun x z → (IsAnswer status → status ≡ outcome r) → NamesAsked promise x z status
@@ -627,6 +643,7 @@ run_names promise begins x y z r status asked called answers =
             first = subst (λ (names : List Text). AreFirstNames names asked.opens) (sym called.opened_are) asks.opened_first;
             whole = λ is. called.opened_are ∙ (asks.whole (subst IsAnswer (answers is) is)).0;
           }) asked.asked,
+      called.acts,
     )
 
 pub names_ended : (promise : Promise) (begins : Bool) (x z : Moment) (status : Status) → PrintsAsked promise begins x z (Ok status) → NamesAsked promise x z status

@@ -1,7 +1,7 @@
 -- What a run that keeps a promise may leave behind.
 use Rattle.std.specs.Prelude.{◌≡◌, ℕ, ◌+◌, ◌≤◌, ◌⊎◌, Bool, false, List, [], ◌++◌, Some}
 use Rattle.cc_describe.specs.Places.{Files}
-use Rattle.cc_ports.specs.Contents.{Contents, IsPrefix, Rose, kept_behind}
+use Rattle.cc_ports.specs.Contents.{Contents, IsPrefix, Rose, keeping, kept_behind}
 use Rattle.cc_ports.specs.Moments.{Moment}
 use Rattle.cc_list.specs.Promises.{Keeps, Promise}
 use Rattle.cc_list.specs.Wholes.{IsFrontOf, Left, Whole, left_by}
@@ -84,14 +84,15 @@ Answers files promise statuses.OutOfMemory counts left = CutShortBy files promis
 abbrev pub left_in : Contents → List ℕ → Bool → Left
 left_in contents log begun = record { given = record { out = contents.out; err = contents.err; log = log }; begun = begun }
 
--- what this leaves in Log, where it was empty before: the same where Log keeps what is given to it, and nothing where it drops that
-abbrev pub LeavesLog : Contents → Contents → List ℕ → Type 0
-LeavesLog before after log = after.log ≡ kept_behind before.keeps [] log
+-- What this leaves in Log, where it was empty before: the same where a log was begun or Log keeps what is given to it, and nothing
+-- where it drops that.
+abbrev pub LeavesLog : (before after : Contents) (begun : Bool) → List ℕ → Type 0
+LeavesLog before after begun log = after.log ≡ kept_behind (keeping begun before).keeps [] log
 
 -- What a run leaves on a desk that tells its contents: the files are as before, and the three outputs, whether a log was begun,
 -- and the status are the answer to the promise.
 pub record Answered (before after : Contents) (begun : Bool) (promise : Promise) (status : Status) (counts : Counts) : Type 0 where
   pub files : after.files ≡ before.files
   pub log : List ℕ
-  pub logged : LeavesLog before after log
+  pub logged : LeavesLog before after begun log
   pub answer : Answers before.files promise status counts (left_in after log begun)

@@ -36,7 +36,7 @@ pub record Searches (manner : Manner) (task : Task) (before : Given) (old new : 
 pub record Leaves (promise : Promise) (before after : Contents) (begun : Bool) (result : Result Status Stop) : Type 0 where
   pub files : after.files ≡ before.files
   pub log : List ℕ
-  pub logged : LeavesLog before after log
+  pub logged : LeavesLog before after begun log
   pub how : MatchResult result (λ status. Ended before.files promise status (left_in after log begun)) (λ _. GaveSoFar before.files promise (left_in after log begun))
 
 -- the status of a run that ended or stopped

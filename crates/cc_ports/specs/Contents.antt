@@ -37,6 +37,11 @@ abbrev pub after_create : Bool → Contents → Contents
 after_create true c = record c { log = []; keeps = true }
 after_create false c = c
 
+-- the same, where a log was begun since, or was not
+abbrev pub keeping : Bool → Contents → Contents
+keeping true c = record c { keeps = true }
+keeping false c = c
+
 -- what was written to an output
 abbrev pub output_of : To → Contents → List ℕ
 output_of outputs.Out c = c.out

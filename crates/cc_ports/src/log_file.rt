@@ -1,10 +1,9 @@
 //! The file of a log: it is written beside its place, and put there when its run has ended.
-use std::fs;
 use std::fs::{File, Metadata};
-use std::io;
 use std::io::{Error, ErrorKind};
 use std::os::unix::fs::MetadataExt;
 use std::path::PathBuf;
+use std::{fs, io};
 
 /// The ending of the name under which a log is written until its run has ended.
 const UNFINISHED: &str = ".unfinished";

@@ -5,8 +5,8 @@ ghost use Rattle.cc_ports.specs.Memory.{Memory, new_memory, contents_of, file_in
 
 use crate::files::Files;
 use crate::sheet::Sheet;
-use cc_defs::{Nums, OutOfMemory};
 use crate::{Desk, Failed, To};
+use cc_defs::{Nums, OutOfMemory};
 use std::alloc::Global;
 use std::marker::Model;
 

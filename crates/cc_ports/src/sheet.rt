@@ -1,8 +1,8 @@
 //! An output in memory.
 ghost use Rattle.std.specs.Prelude.{◌≡◌, ◌-◌, ◌≤◌, ◌<◌, ◌↔◌, min, [], ◌++◌, length, take, IfOk, OnOk, OnErr, IsErr};
 
-use cc_defs::OutOfMemory;
 use crate::Failed;
+use cc_defs::OutOfMemory;
 use std::alloc::Global;
 use std::marker::Model;
 

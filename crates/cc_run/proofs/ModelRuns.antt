@@ -46,7 +46,7 @@ use Rattle.cc_tell.proofs.Calls.{called_on}
 use Rattle.cc_tell.proofs.GivenSteps.{calm_both, rose_later, step_as}
 use Rattle.cc_list.proofs.Callings.{first_none}
 use Rattle.cc_list.proofs.NumberedSteps.{section_low}
-use Rattle.cc_list.proofs.Outcomes.{Comes, known, left, prints_whole, told_search, whole_comes}
+use Rattle.cc_list.proofs.Outcomes.{Comes, known, left, prints_whole, keeps_begun, told_search, whole_comes}
 
 -- ---- what is asked
 
@@ -238,7 +238,8 @@ prints_listing {X = X} modelling cnf form names x y z b v r named of is at was l
     } in
     let names_are = models_log modelling names named in
     record {
-      told = told_search (modelling_promise modelling) step.given x.told y.told z.told x.begun z.begun r done.told step.moves.told
+      told = told_search (modelling_promise modelling) step.given x.told y.told z.told x.begun z.begun r
+          (keeps_begun x.told y.told begins x.begun z.begun (begun_as begins x.begun y.begun z.begun done.begun step.moves.begun) done.told) step.moves.told
           (known x.told (λ c. IsCnfIn c.files modelling.file cnf) (λ before. x.begun ≡ false → Comes before.files (modelling_promise modelling) (left step.given z.begun) r)
           (λ before is none. whole_comes before.files (modelling_promise modelling) whole step.given z.begun r
           (inr (models before.files is))

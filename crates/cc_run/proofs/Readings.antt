@@ -15,7 +15,7 @@ use Rattle.cc_describe.specs.Describing.{AreFirstNames, AreToOpen, Describes, Ha
 use Rattle.cc_describe.specs.FirstRefusal.{declared_in, file_named}
 use Rattle.cc_describe.specs.Places.{Files, Place}
 use Rattle.cc_list.proofs.Described.{IsRead, first_files, named_refused, stopped, stopped_refuses}
-use Rattle.cc_ports.specs.Calls.{Call, names_begun, names_opened, with_calls}
+use Rattle.cc_ports.specs.Calls.{AreActs, Call, names_begun, names_opened, with_calls}
 use Rattle.cc_ports.specs.Contents.{Contents, Rose, with_rest}
 use Rattle.cc_ports.specs.Moments.{Moment}
 use Rattle.cc_list.specs.Asking.{AreNamed, IsRefusedNamed}
@@ -328,7 +328,7 @@ file_as a b file same is = subst (λ (asked : Asked). IsFileOf (plain_request as
 pub reads_file : (which : Heads) (request : Request) (file : Text) (r : Outcome) (x y : Moment) → which ≡ heads_of request → IsFileOf request file →
     IfSome x.told (λ c. IfOk r (Describes which c.files file)) → IfSome x.told (λ c. IfErr r (HasStopped which c.files file)) →
     (IsErrOf r describe_stops.ReadFault → Rose x.reads y.reads) → ((rest : List ℕ) × (y.told ≡ option_map (with_rest rest) x.told)) → y.begun ≡ x.begun →
-    ((more : List Call) × (y.calls ≡ with_calls more x.calls) × (names_begun more ≡ []) × IfSome x.told (λ c. OpensFor which c.files file r (names_opened more))) →
+    ((more : List Call) × (y.calls ≡ with_calls more x.calls) × (names_begun more ≡ []) × IfSome x.told (λ c. OpensFor which c.files file r (names_opened more)) × AreActs more) →
     ((IsErrOf r describe_stops.ReadFault → ⊥) → IsCalm x y) → x.reads ≤ y.reads → x.writes ≤ y.writes → Reads request r x y
 reads_file which request file r x y same is described refused failed after begun calls calm reads writes = record {
   rest = after.0;
@@ -337,7 +337,7 @@ reads_file which request file r x y same is described refused failed after begun
   reads = reads;
   writes = writes;
   opened = names_opened calls.0;
-  called = called_reading x y calls.0 calls.1 calls.2;
+  called = called_reading x y calls.0 calls.1 calls.2 calls.4;
   opens = opens_file x.told request file r (names_opened calls.0) is
       (subst (λ (h : Heads). IfSome x.told (λ c. OpensFor h c.files file r (names_opened calls.0))) same calls.3);
   describes = at_file (λ (h : Heads) (files : Files) (name : Text). IfOk r (Describes h files name)) x.told which request file same is described;

@@ -5,7 +5,7 @@ ghost use Rattle.cc_defs.specs.Description.{Description};
 ghost use Rattle.cc_defs.specs.Resolved.{Query};
 ghost use Rattle.cc_describe.specs.declared.heads.Heads.TheVariants as heads;
 ghost use Rattle.cc_describe.specs.Describing.{Describes, SaysAll, AsksFormulas, HasForms, HasWideForms};
-ghost use Rattle.cc_ports.specs.Calls.{Call, names_begun, names_opened, with_calls};
+ghost use Rattle.cc_ports.specs.Calls.{AreActs, Call, names_begun, names_opened, with_calls};
 ghost use Rattle.cc_ports.specs.Contents.{Rose};
 ghost use Rattle.cc_ports.specs.Moments.{Moment};
 ghost use Rattle.cc_list.specs.Answers.{Answered, counts};
@@ -64,12 +64,12 @@ pub fn run<D: Desk>(alloc: Global, words: &[String], desk: &mut D) -> Status
         (λ after. Answered before after (D.seen desk.new).begun (promised (map string_bytes words.now)) result
         (counts (D.seen desk.old) (D.seen desk.new)))) }
     // The names that are opened are those of the words and of the description, in their order, and no others; the log that is begun
-    // has the name that the words give it.
+    // has the name that the words give it. A file is read when it was opened, and never later.
     ensures names { (more : List Call) × ((D.seen desk.new).calls
         ≡ with_calls more (D.seen desk.old).calls)
         × BeginsAsked (promised (map string_bytes words.now)) result (names_begun more)
         × IfSome (D.seen desk.old).told (λ before. OpensAsked before.files
-        (promised (map string_bytes words.now)) result (names_opened more)) }
+        (promised (map string_bytes words.now)) result (names_opened more)) × AreActs more }
     // Where it comes to its end, it is with a status that its request may have, and the desk counted no fault.
     ensures ends { IsEndStatus result →
         (promised (map string_bytes words.now)).MayEnd result }

@@ -1,6 +1,7 @@
 -- Which calls steps make of a desk, one after another.
 use Rattle.std.proofs.Common.{◌≡◌, ◌∙◌, refl, sym, ap, subst, ℕ, List, [], ◌∷◌, ◌++◌, map, Option, Some, None, append_assoc, append-nil}
 use Rattle.std.proofs.lemmas.Grind.{flat_map-append}
+use Rattle.cc_ports.proofs.Acts.{acts_begun, acts_both, acts_given, acts_none}
 use Rattle.cc_ports.specs.Calls.{AreGivings, Begins, Call, Gives, name_begun, name_opened, names_begun, names_opened, with_call, with_calls}
 use Rattle.cc_ports.specs.declared.desk.To.{To}
 use Rattle.cc_ports.specs.Moments.{Moment}
@@ -18,7 +19,7 @@ no_calls None = refl
 no_calls (Some c) = ap Some (sym (append-nil c))
 
 pub called_none : (m : Moment) → Called [] [] m m
-called_none m = record { more = []; calls = no_calls m.calls; opened_are = refl; begun_are = refl }
+called_none m = record { more = []; calls = no_calls m.calls; opened_are = refl; begun_are = refl; acts = acts_none }
 
 pub called_both : (opened begun opened_then begun_then : List (List ℕ)) (x y z : Moment) → Called opened begun x y → Called opened_then begun_then y z →
     Called (opened ++ opened_then) (begun ++ begun_then) x z
@@ -29,6 +30,7 @@ called_both opened begun opened_then begun_then x y z first second = record {
       ∙ names_both (names_opened first.more) (names_opened second.more) opened opened_then first.opened_are second.opened_are;
   begun_are = flat_map-append name_begun first.more second.more
       ∙ names_both (names_begun first.more) (names_begun second.more) begun begun_then first.begun_are second.begun_are;
+  acts = acts_both first.more second.more first.acts second.acts;
 }
 
 -- behind other calls, these only give
@@ -52,8 +54,9 @@ called_gives to x y made = record {
   calls = made.2;
   opened_are = ap (λ (l : List Call). names_opened l) made.1.calls_are ∙ gives_opened to made.1.parts;
   begun_are = ap (λ (l : List Call). names_begun l) made.1.calls_are ∙ gives_begun to made.1.parts;
+  acts = acts_given to made.0 made.1;
 }
 
 -- what `create_file` says of its call
 pub called_begins : (name : List ℕ) (x y : Moment) → y.calls ≡ with_call (Begins name) x.calls → Called [] (name ∷ []) x y
-called_begins name x y made = record { more = Begins name ∷ []; calls = made; opened_are = refl; begun_are = refl }
+called_begins name x y made = record { more = Begins name ∷ []; calls = made; opened_are = refl; begun_are = refl; acts = acts_begun name }

@@ -4,7 +4,7 @@ use Rattle.std.specs.Prelude.{is_some}
 use Rattle.std.specs.Borrow.{Bor}
 use Rattle.cc_defs.specs.Runs.{optional}
 use Rattle.cc_ports.specs.Calls.{Begins as BeginsLog, with_call}
-use Rattle.cc_ports.specs.Contents.{Contents, Rose, after_create}
+use Rattle.cc_ports.specs.Contents.{Contents, Rose, after_create, keeping}
 use Rattle.cc_ports.specs.Moments.{Moment}
 use Rattle.cc_tell.specs.declared.status.Stop.{Stop}
 use Rattle.cc_tell.specs.declared.status.Stop.TheVariants as stops
@@ -14,10 +14,10 @@ use Rattle.cc_tell.proofs.Calls.{called_begins}
 abbrev named : Option (Bor (List ℕ)) → Option (List ℕ)
 named = option_map (λ (text : Bor (List ℕ)). text.now)
 
-begun_fresh : (c : Contents) → IsFresh c → after_create true c ≡ c
-begun_fresh c fresh = λ i. record c { log = sym fresh.log i }
+begun_fresh : (c : Contents) → IsFresh c → after_create true c ≡ keeping true c
+begun_fresh c fresh = λ i. record c { log = sym fresh.log i; keeps = true }
 
-after_begun : (old new : Option Contents) → new ≡ option_map (after_create true) old → IfSome old (λ before. IsFresh before → new ≡ Some before)
+after_begun : (old new : Option Contents) → new ≡ option_map (after_create true) old → IfSome old (λ before. IsFresh before → new ≡ Some (keeping true before))
 after_begun None new is = tt
 after_begun (Some c) new is = λ fresh. is ∙ ap Some (begun_fresh c fresh)
 

@@ -20,7 +20,7 @@ returns-in-Ok g c =
     let there = files_stay read.after.0 (λ files. Describes heads.Definite files listing.file c.in-Ok.described) _ _ read.after.1 read.described in
     prints_opened (listing_promise listing) _ _ _ _ c.list_described-answer.result (all_named _ heads.Definite listing.file opened read.calls.3)
     (prints_after_read (listing_promise listing) _ opened [] read.after.0 _ _ _ c.list_described-answer.result read.after.1 read.begun read.reads_count read.writes_count
-    (called_reading _ _ read.calls.0 read.calls.1 read.calls.2) (read.calm (ok_no_err _ _)) (c.list_described-answer.ensures there))
+    (called_reading _ _ read.calls.0 read.calls.1 read.calls.2 read.calls.4) (read.calm (ok_no_err _ _)) (c.list_described-answer.ensures there))
 
 pub returns-in-Err-Refused : goal.returns-in-Err-Refused
 returns-in-Err-Refused g c =
@@ -33,7 +33,7 @@ returns-in-Err-Refused g c =
     let there = files_stay read.after.0 HasRefused _ _ read.after.1 (rw c.in-Err-Refused.field-0-is at read.refused) in
     prints_opened (listing_promise listing) _ _ _ _ c.refuse.result (all_named _ heads.Definite listing.file opened (rw c.in-Err-Refused.field-0-is at read.calls.3))
     (prints_after_read (listing_promise listing) _ opened [] read.after.0 _ _ _ c.refuse.result read.after.1 read.begun read.reads_count read.writes_count
-    (called_reading _ _ read.calls.0 read.calls.1 read.calls.2) (read.calm (refused_is_no_fault _ refusal file c.in-Err-Refused.field-0-is))
+    (called_reading _ _ read.calls.0 read.calls.1 read.calls.2 read.calls.4) (read.calm (refused_is_no_fault _ refusal file c.in-Err-Refused.field-0-is))
     (prints_refusal (listing_promise listing) _ [] refusal c.text.result.now _ _ c.refuse.result tt
     (rw c.text.ensures (known _ (λ before. HasRefused before.files) (λ before. (listing_promise listing).Refuses before.files refusal file)
     (λ before stopped. inl (stopped_refuses heads.Definite before.files (named_by listing) refusal file stopped)) there))
@@ -46,7 +46,7 @@ returns-in-Err-ReadFault g c =
     let names = first_named _ heads.Definite listing.file c.in-Err-ReadFault.field-0 (names_opened read.calls.0) read.calls.3 in
     prints_opened (listing_promise listing) _ names.0 _ _ _ names.2
     (prints_stopped (listing_promise listing) _ (names_opened read.calls.0) names.0 read.after.0 run_stops.ReadFault _ _ read.after.1 read.begun read.reads_count read.writes_count
-    (called_reading _ _ read.calls.0 read.calls.1 read.calls.2) names.1 (λ _. read.failed (ap Err c.in-Err-ReadFault.field-0-is)) read_not_write)
+    (called_reading _ _ read.calls.0 read.calls.1 read.calls.2 read.calls.4) names.1 (λ _. read.failed (ap Err c.in-Err-ReadFault.field-0-is)) read_not_write)
 
 pub returns-in-Err-OutOfMemory : goal.returns-in-Err-OutOfMemory
 returns-in-Err-OutOfMemory g c =
@@ -55,4 +55,4 @@ returns-in-Err-OutOfMemory g c =
     let names = first_named _ heads.Definite listing.file c.in-Err-OutOfMemory.field-0 (names_opened read.calls.0) read.calls.3 in
     prints_opened (listing_promise listing) _ names.0 _ _ _ names.2
     (prints_stopped (listing_promise listing) _ (names_opened read.calls.0) names.0 read.after.0 run_stops.OutOfMemory _ _ read.after.1 read.begun read.reads_count read.writes_count
-    (called_reading _ _ read.calls.0 read.calls.1 read.calls.2) names.1 (λ is. absurd (memory_not_read is)) memory_not_write)
+    (called_reading _ _ read.calls.0 read.calls.1 read.calls.2 read.calls.4) names.1 (λ is. absurd (memory_not_read is)) memory_not_write)
