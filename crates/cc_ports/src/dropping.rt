@@ -20,14 +20,11 @@ impl DroppingDesk {
         DroppingDesk { desk }
     }
 
-    /// What was written to an output.
-    pub fn written(&self, to: To) -> &[u8] {
-        self.desk.written(to)
-    }
-
-    /// Whether a log was begun.
-    pub fn has_begun(&self) -> bool {
-        self.desk.has_begun()
+    /// The desk that it is made of, with what was written.
+    pub fn desk(&self) -> &MemoryDesk
+        ensures { result.now ≡ self.now.desk }
+    {
+        &self.desk
     }
 }
 

@@ -3,7 +3,7 @@ use crate::digits::{bytes_in_hex, show_hex};
 use crate::setting::Setting;
 use cc_books::{body, bytes_named, head, parts};
 use cc_defs::{Bytes, Name, Nums, OutOfMemory};
-use cc_ports::{Files, MemoryDesk, To};
+use cc_ports::{DroppingDesk, Files, MemoryDesk, To};
 use cc_run::run;
 use std::alloc::Global;
 use std::fmt::Write;
@@ -143,8 +143,15 @@ pub(crate) fn shown(alloc: Global, case: &[u8]) -> Result<String, OutOfMemory> {
     let words = words_of(alloc, text_of(&parts, "words"))?;
     let setting = Setting::read(alloc, text_of(&parts, "desk"))?;
     let counted = setting.counted;
+    let drops = setting.drops;
     let mut desk = desk_of(alloc, &parts, setting)?;
-    let status = run(alloc, &words, &mut desk);
-    show_desk(&mut out, &desk, counted, status.code())?;
+    if drops {
+        let mut desk = DroppingDesk::of(desk);
+        let status = run(alloc, &words, &mut desk);
+        show_desk(&mut out, desk.desk(), counted, status.code())?;
+    } else {
+        let status = run(alloc, &words, &mut desk);
+        show_desk(&mut out, &desk, counted, status.code())?;
+    }
     Ok(out)
 }

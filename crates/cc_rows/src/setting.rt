@@ -4,7 +4,8 @@ ghost use Rattle.std.specs.Prelude.{◌<◌};
 use cc_defs::OutOfMemory;
 use std::alloc::Global;
 
-/// How a desk behaves: which of its calls fail, the most bytes that a read gives, and the room of Out, Err and Log.
+/// How a desk behaves: which of its calls fail, the most bytes that a read gives, the room of Out, Err and Log, and whether it drops
+/// a log that was not begun.
 #[derive(Drop)]
 pub(crate) struct Setting {
     pub(crate) fails: Vec<u32>,
@@ -14,6 +15,8 @@ pub(crate) struct Setting {
     cut: u32,
     /// Whether the lines of the log are counted, and not shown.
     pub(crate) counted: bool,
+    /// Whether what is given to Log is dropped until a log was begun.
+    pub(crate) drops: bool,
 }
 
 /// The numbers in a line, behind its first word.
@@ -35,6 +38,7 @@ impl Setting {
             room: [1_048_576; 3],
             cut: 0,
             counted: false,
+            drops: false,
         }
     }
 
@@ -66,6 +70,7 @@ impl Setting {
             (Some("reads"), [most]) => self.most = *most,
             (Some("cut"), [cut]) => self.cut = *cut,
             (Some("counted"), []) => self.counted = true,
+            (Some("drops"), []) => self.drops = true,
             (Some("room"), [out, err, log]) => {
                 self.room = [*out as usize, *err as usize, *log as usize];
             }

@@ -1,6 +1,7 @@
 //! What a run gives to its desk: steps, stops, and what is told of each event, each line of an output by one call.
 #![tactic(auto)]
 
+mod ending;
 mod logs;
 mod refusing;
 mod status;
@@ -8,6 +9,7 @@ mod summing;
 mod telling;
 mod words;
 
+pub use ending::end_run;
 pub use logs::begin_log;
 pub use refusing::{file_named, give, give_made, refuse, tell_limit, tell_stop};
 pub use status::{Status, Stop, status_of};

@@ -15,6 +15,7 @@ use cc_laws::{classify, definite};
 use cc_list::run_list;
 use cc_ports::{Files, MemoryDesk, RealDesk, To};
 use cc_run::{Status, run, run_still};
+use cc_tell::end_run;
 use std::alloc::Global;
 use std::test::Fail;
 
@@ -146,6 +147,50 @@ fn list_mode_alone_says_the_same(rt: HostRuntime) -> Result<(), Fail> {
     Ok(())
 }
 
+// A log is begun at no file that was read, whatever its name, and that file stays as it was.
+#[test]
+fn a_log_is_no_file_that_was_read(rt: HostRuntime) -> Result<(), Fail> {
+    let alloc = rt.alloc();
+    std::fs::write(&rt, "g.cc", ":- include 'f.cc'. :- query label :: 1; maxstep :: 0.")?;
+    std::fs::write(&rt, "f.cc", ":- constants p :: simpleFluent.")?;
+    std::fs::hard_link(&rt, "f.cc", "other")?;
+    for name in ["f.cc", "./f.cc", "other", "g.cc"] {
+        let mut desk = RealDesk::new(rt.clone()?);
+        let words = all_words(alloc, &["--log", name, "g.cc"])?;
+        assert!(rt; run(alloc, &words, &mut desk) == Status::WriteFault);
+    }
+    let text = std::fs::read_to_string(&rt, "f.cc")?;
+    assert!(rt; text.as_str() == ":- constants p :: simpleFluent.");
+    Ok(())
+}
+
+// A fault of reading is not taken for the end of the file.
+#[test]
+fn a_folder_is_no_description(rt: HostRuntime) -> Result<(), Fail> {
+    let alloc = rt.alloc();
+    let words = words_of(alloc, ".")?;
+    let mut desk = RealDesk::new(rt.clone()?);
+    assert!(rt; run(alloc, &words, &mut desk) == Status::ReadFault);
+    Ok(())
+}
+
+// What stands at the log's name stays there when a run is cut short.
+#[test]
+fn a_run_that_is_cut_short_leaves_the_log(rt: HostRuntime) -> Result<(), Fail> {
+    let alloc = rt.alloc();
+    std::fs::write(&rt, "f.cc", TWO_FLUENTS)?;
+    std::fs::write(&rt, "l", "old")?;
+    let words = all_words(alloc, &["--log", "l", "f.cc"])?;
+    let mut desk = RealDesk::new(rt.clone()?);
+    assert!(rt; run(alloc, &words, &mut desk) == Status::Right);
+    assert!(rt; end_run(&mut desk, Status::OutOfMemory) == Status::OutOfMemory);
+    let log = std::fs::read_to_string(&rt, "l")?;
+    assert!(rt; log.as_str() == "old");
+    let unfinished = std::fs::read_to_string(&rt, "l.unfinished")?;
+    assert!(rt; unfinished.as_str().starts_with("ccalc log 1\n"));
+    Ok(())
+}
+
 #[test]
 fn list_mode_alone_leaves_other_modes(rt: HostRuntime) -> Result<(), Fail> {
     let alloc = rt.alloc();
@@ -164,9 +209,11 @@ fn real_logs_are_those_in_memory(rt: HostRuntime) -> Result<(), Fail> {
     std::fs::write(&rt, "f.cc", TWO_FLUENTS)?;
     let mut desk = RealDesk::new(rt.clone()?);
     assert!(rt; run(alloc, &words, &mut desk) == Status::Right);
-    drop(desk);
+    assert!(rt; std::fs::read(&rt, "l").is_err());
+    assert!(rt; end_run(&mut desk, Status::Right) == Status::Right);
     let log = std::fs::read(&rt, "l")?;
     assert!(rt; log.len() > 0);
+    assert!(rt; std::fs::read(&rt, "l.unfinished").is_err());
     assert!(rt; logs_in_memory(alloc, &words, TWO_FLUENTS, &log)?);
     let text = std::fs::read_to_string(&rt, "f.cc")?;
     assert!(rt; text.as_str() == TWO_FLUENTS);

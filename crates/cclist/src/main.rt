@@ -6,8 +6,8 @@ ghost use Rattle.std.specs.Prelude.{◌≢◌};
 ghost use Rattle.cc_tell.specs.Codes as codes;
 
 pub use cc_list::run_list;
-use cc_ports::RealDesk;
-use cc_tell::{Status, words_of};
+use cc_ports::{RealDesk, StandardStreams};
+use cc_tell::{Status, end_run, words_of};
 use std::process::ExitCode;
 
 /// The code where the words ask for another mode.
@@ -20,19 +20,23 @@ fn other_mode() -> u8
     OTHER_MODE
 }
 
-fn code_of(ended: Option<Status>) -> u8 {
+fn code_of(desk: &mut RealDesk, ended: Option<Status>) -> u8 {
     match ended {
-        Some(status) => status.code(),
+        Some(status) => end_run(desk, status).code(),
         None => other_mode(),
     }
 }
 
 fn main(rt: HostRuntime) -> ExitCode {
+    let Ok(_streams) = StandardStreams::hold(&rt) else {
+        return ExitCode::from(Status::WriteFault.code());
+    };
     let alloc = rt.alloc();
     match words_of(&rt) {
         Ok(words) => {
             let mut desk = RealDesk::new(rt);
-            ExitCode::from(code_of(run_list(alloc, &words, &mut desk)))
+            let ended = run_list(alloc, &words, &mut desk);
+            ExitCode::from(code_of(&mut desk, ended))
         }
         Err(code) => ExitCode::from(code),
     }
