@@ -403,6 +403,7 @@ module _ (converting : Converting) (d : Description) (q : Query) (key : Option K
         verdict = verdict;
         judged = judged.judged;
         within = judged.within;
+        blocks = judged.blocks;
         converted = converted;
         ends = ends;
       }

@@ -14,7 +14,7 @@ use Rattle.cc_defs.specs.Logs.{IsVerdict}
 use Rattle.cc_defs.specs.LogVersions.{lines_bytes, log_in, other_version}
 use Rattle.cc_defs.specs.Resolved.{Query}
 use Rattle.cc_defs.specs.Signatures.{Signature}
-use Rattle.cc_judge.specs.Judging.{IsVerdictWithin}
+use Rattle.cc_judge.specs.Judging.{BlocksHistories, IsVerdictWithin}
 use Rattle.cc_print.specs.Verdicts.{verdict_line}
 use Rattle.cc_query.specs.Accepted.{subject_of}
 use Rattle.cc_list.specs.Asking.{AreOf}
@@ -46,8 +46,10 @@ other_said d q key bytes says = log_in (other_version says.version) (counts_of d
 abbrev pub converted_by : LogVerdict → List ℕ → Given
 converted_by verdict other = record { out = verdict_line verdict; err = []; log = other }
 
--- this is the verdict on a log, and no section that is judged for it passes a limit
+-- This is the verdict on a log, and no section that is judged for it passes a limit; where it is accepted, it blocks each history of its
+-- horizons.
 pub record IsJudged (d : Description) (q : Query) (key : Option Key) (bytes : List ℕ) (verdict : LogVerdict) : Type 0 where
   pub few : length bytes ≤ most_log_bytes
   pub judged : IsVerdict (subject_of d q key) bytes verdict
   pub within : IsVerdictWithin d q key bytes verdict
+  pub blocks : BlocksHistories d q key bytes verdict

@@ -10,7 +10,7 @@ use Rattle.cc_defs.specs.Logs.{Subject, IsVerdict}
 use Rattle.cc_describe.specs.declared.heads.Heads.TheVariants as heads
 use Rattle.cc_describe.specs.Describing.{AreToOpen}
 use Rattle.cc_describe.specs.Places.{Files}
-use Rattle.cc_judge.specs.Judging.{IsVerdictWithin}
+use Rattle.cc_judge.specs.Judging.{BlocksHistories, IsVerdictWithin}
 use Rattle.cc_print.specs.Verdicts.{verdict_line}
 use Rattle.cc_query.specs.Accepted.{subject_of}
 use Rattle.cc_run.specs.Modes.Checking.{MayEndChecking, NamesLog, RefusesChecking, verdict_status}
@@ -41,7 +41,8 @@ IsConverted subject bytes (verdicts.Accepted first last blocked) whole =
 IsConverted subject bytes (verdicts.Refused line reason) whole =
     (whole.given ≡ only_out (verdict_line (verdicts.Refused line reason))) × (whole.begun ≡ false)
 
--- What a checker says of the log is given to Out, as in check mode, and the other version of one that is accepted to Log.
+-- What a checker says of the log is given to Out, as in check mode, and the other version of one that is accepted to Log. Where it is
+-- accepted, each history of its horizons is blocked in it.
 pub record Converts (converting : Converting) (files : Files) (whole : Whole) : Type 0 where
   pub task : Task
   pub bytes : List ℕ
@@ -50,6 +51,7 @@ pub record Converts (converting : Converting) (files : Files) (whole : Whole) : 
   pub verdict : LogVerdict
   pub judged : IsVerdict (task_subject task) bytes verdict
   pub within : IsVerdictWithin task.description task.query task.ask.after bytes verdict
+  pub blocks : BlocksHistories task.description task.query task.ask.after bytes verdict
   pub converted : IsConverted (task_subject task) bytes verdict whole
   pub ends : whole.ends ≡ Some (verdict_status verdict)
 

@@ -18,7 +18,7 @@ pub returns-in-Ok : goal.returns-in-Ok
 returns-in-Ok g c = λ converting d q to of named.
     let said = is_said d q c.args.prepared.now.key _ c.args.bytes.now c.in-Ok.verdict c.as_ref.ensures.value c.requires.few (c.in-Ok.ensures.verdict d q of.laws_are of.query_is)
     (c.in-Ok.ensures.within d q of.laws_are of.query_is) (c.in-Ok.ensures.whole d q of.laws_are of.query_is) in
-    c.convert_judged.ensures converting d q to of named (record { few = said.few; judged = said.judged; within = said.within })
+    c.convert_judged.ensures converting d q to of named (record { few = said.few; judged = said.judged; within = said.within; blocks = said.blocks })
 
 pub returns-in-Err-Refused : goal.returns-in-Err-Refused
 returns-in-Err-Refused g c = λ converting d q to of named.
