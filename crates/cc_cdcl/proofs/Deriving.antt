@@ -164,10 +164,9 @@ pub by_ok : {T E : Type 0} (A B C P : Type 0) (result : Result T E) → OnOk res
 by_ok A B C P (Ok value) a b c holds = holds a b c
 by_ok A B C P (Err error) a b c holds = tt
 
-pub none_always : {T E : Type 0} (P : Type 0) (result : Result (Option T) E) → P → IfOk result (λ found. IfNone found P)
-none_always P (Ok (Some found)) holds = tt
-none_always P (Ok None) holds = holds
-none_always P (Err error) holds = tt
+pub none_always : {T : Type 0} (P : Type 0) (found : Option T) → P → IfNone found P
+none_always P (Some found) holds = tt
+none_always P None holds = holds
 
 pub when_true : (P Q : Type 0) (b : Bool) → b ≡ true → MatchBool b P Q → P
 when_true P Q b is matched = rw is at matched

@@ -1,5 +1,5 @@
 //! Propagation and choices, down to a false clause or to an assignment that gives every variable a value.
-ghost use Rattle.std.specs.Prelude.{◌≡◌, ◌≢◌, ℕ, ◌+◌, ◌<◌, ◌≤◌, List, IfOk, IfSome, IfNone, OnOk, length, sum};
+ghost use Rattle.std.specs.Prelude.{◌≡◌, ◌≢◌, ℕ, ◌+◌, ◌<◌, ◌≤◌, List, IfSome, IfNone, OnOk, length, sum};
 ghost use Rattle.cc_defs.specs.Assignments.{IsClosed};
 ghost use Rattle.cc_kernel.specs.Kernels.{KernelView, clauses_of};
 ghost use Rattle.cc_trail.specs.Steps.{AreSteps, values_of};
@@ -46,20 +46,15 @@ fn decide(trail: &mut Trail, cursors: &mut [Cursor], cursor: Cursor, lit: Lit, s
 }
 
 // Propagates, and then makes the next choice.
-fn next_round(
-    trail: &mut Trail,
-    cursors: &mut [Cursor],
-    kernel: &Kernel,
-    sizes: &[u32],
-) -> Result<Round, OutOfMemory>
+fn next_round(trail: &mut Trail, cursors: &mut [Cursor], kernel: &Kernel, sizes: &[u32]) -> Round
     requires searching { IsSearching sizes.now kernel.now trail.old cursors.old }
     requires positions { HasPositions sizes.now kernel.now }
     requires sizes { sum sizes.now ≤ kernel.now.variables }
     ensures searching { IsSearching sizes.now kernel.now trail.new cursors.new }
-    ensures round { IfOk result (IsRoundOf kernel.now trail.old trail.new) }
+    ensures round { IsRoundOf kernel.now trail.old trail.new result }
 {
-    match trail.propagate(kernel)? {
-        Some(id) => return Ok(Round::Conflict(id)),
+    match trail.propagate(kernel) {
+        Some(id) => return Round::Conflict(id),
         None => {},
     }
     let level = trail.level_count();
@@ -67,48 +62,41 @@ fn next_round(
     match choice {
         Some(lit) => {
             decide(trail, cursors, cursor, lit, sizes);
-            Ok(Round::Decided)
+            Round::Decided
         },
-        None => Ok(Round::Full),
+        None => Round::Full,
     }
 }
 
 // Propagates and chooses until a clause is false, which is returned, or until every variable has a value.
-fn descend(
-    trail: &mut Trail,
-    cursors: &mut [Cursor],
-    kernel: &Kernel,
-    sizes: &[u32],
-) -> Result<Option<u32>, OutOfMemory>
+fn descend(trail: &mut Trail, cursors: &mut [Cursor], kernel: &Kernel, sizes: &[u32]) -> Option<u32>
     requires searching { IsSearching sizes.now kernel.now trail.old cursors.old }
     requires positions { HasPositions sizes.now kernel.now }
     requires sizes { sum sizes.now ≤ kernel.now.variables }
     ensures searching { IsSearching sizes.now kernel.now trail.new cursors.new }
-    ensures failed { IfOk result (λ found. IfSome found (λ id.
-        IsFailedClause (clauses_of kernel.now) trail.new.steps id)) }
-    ensures full { IfOk result (λ found. IfNone found
-        (IsFull kernel.now.variables (values_of trail.new.steps))) }
-    ensures closed { IfOk result (λ found. IfNone found
-        (IsClosed (values_of trail.new.steps) (clauses_of kernel.now))) }
+    ensures failed { IfSome result (λ id.
+        IsFailedClause (clauses_of kernel.now) trail.new.steps id) }
+    ensures full { IfNone result (IsFull kernel.now.variables (values_of trail.new.steps)) }
+    ensures closed { IfNone result (IsClosed (values_of trail.new.steps) (clauses_of kernel.now)) }
 {
     loop {
-        match next_round(trail, cursors, kernel, sizes)? {
-            Round::Conflict(id) => return Ok(Some(id)),
-            Round::Full => return Ok(None),
+        match next_round(trail, cursors, kernel, sizes) {
+            Round::Conflict(id) => return Some(id),
+            Round::Full => return None,
             Round::Decided => {},
         }
     }
 }
 
 // Propagates, and then decides what the probe says.
-fn probe_round(trail: &mut Trail, probe: &mut Probe, kernel: &Kernel) -> Result<Round, OutOfMemory>
+fn probe_round(trail: &mut Trail, probe: &mut Probe, kernel: &Kernel) -> Round
     requires { IsTrailOf kernel.now trail.old }
     ensures trail { IsTrailOf kernel.now trail.new }
-    ensures round { IfOk result (IsRoundOf kernel.now trail.old trail.new) }
+    ensures round { IsRoundOf kernel.now trail.old trail.new result }
     ensures phase { probe.new.phase ≡ probe.old.phase }
 {
-    match trail.propagate(kernel)? {
-        Some(id) => return Ok(Round::Conflict(id)),
+    match trail.propagate(kernel) {
+        Some(id) => return Round::Conflict(id),
         None => {},
     }
     let _before = trail.level_count();
@@ -116,28 +104,24 @@ fn probe_round(trail: &mut Trail, probe: &mut Probe, kernel: &Kernel) -> Result<
         Some(lit) => {
             trail.decide(lit);
             let _after = trail.level_count();
-            Ok(Round::Decided)
+            Round::Decided
         },
-        None => Ok(Round::Full),
+        None => Round::Full,
     }
 }
 
 // Probes until a clause is false, which is returned, or until every variable has a value.
-fn descend_by_probe(
-    trail: &mut Trail,
-    probe: &mut Probe,
-    kernel: &Kernel,
-) -> Result<Option<u32>, OutOfMemory>
+fn descend_by_probe(trail: &mut Trail, probe: &mut Probe, kernel: &Kernel) -> Option<u32>
     requires { IsTrailOf kernel.now trail.old }
     ensures trail { IsTrailOf kernel.now trail.new }
-    ensures failed { IfOk result (λ found. IfSome found (λ id.
-        IsFailedClause (clauses_of kernel.now) trail.new.steps id)) }
+    ensures failed { IfSome result (λ id.
+        IsFailedClause (clauses_of kernel.now) trail.new.steps id) }
     ensures phase { probe.new.phase ≡ probe.old.phase }
 {
     loop {
-        match probe_round(trail, probe, kernel)? {
-            Round::Conflict(id) => return Ok(Some(id)),
-            Round::Full => return Ok(None),
+        match probe_round(trail, probe, kernel) {
+            Round::Conflict(id) => return Some(id),
+            Round::Full => return None,
             Round::Decided => {},
         }
     }
@@ -155,15 +139,15 @@ fn begin_listing(trail: &mut Trail, cursors: &mut [Cursor])
 }
 
 // Propagates, and tells whether there is something to decide then.
-fn leaves_open(trail: &mut Trail, kernel: &Kernel) -> Result<bool, OutOfMemory>
+fn leaves_open(trail: &mut Trail, kernel: &Kernel) -> bool
     requires { IsTrailOf kernel.now trail.old }
     ensures propagated { IsPropagated trail.old trail.new }
     ensures fits { Fits trail.new kernel.now }
     ensures settled { IsSettled trail.new kernel.now }
 {
-    match trail.propagate(kernel)? {
-        Some(_id) => Ok(false),
-        None => Ok(trail.entries().len() < kernel.variables() as usize),
+    match trail.propagate(kernel) {
+        Some(_id) => false,
+        None => trail.entries().len() < kernel.variables() as usize,
     }
 }
 
@@ -176,7 +160,7 @@ pub fn begin(trail: &mut Trail, probe: &mut Probe, kernel: &Kernel) -> Result<()
 {
     match probe.phase {
         Phase::New => {
-            if leaves_open(trail, kernel)? {
+            if leaves_open(trail, kernel) {
                 return probe.begin(kernel.variables(), kernel.count());
             }
             probe.phase = Phase::Listing;
@@ -194,25 +178,22 @@ pub fn search_on(
     probe: &mut Probe,
     kernel: &Kernel,
     sizes: &[u32],
-) -> Result<Option<u32>, OutOfMemory>
+) -> Option<u32>
     requires phase { IsInPhase probe.old.phase sizes.now kernel.now trail.old cursors.old }
     requires positions { HasPositions sizes.now kernel.now }
     requires sizes { sum sizes.now ≤ kernel.now.variables }
     ensures phase { IsInPhase probe.new.phase sizes.now kernel.now trail.new cursors.new }
-    ensures failed { IfOk result (λ found. IfSome found (λ id.
-        IsFailedClause (clauses_of kernel.now) trail.new.steps id)) }
-    ensures searching { IfOk result (λ found. IfNone found
-        (IsSearching sizes.now kernel.now trail.new cursors.new)) }
-    ensures full { IfOk result (λ found. IfNone found
-        (IsFull kernel.now.variables (values_of trail.new.steps))) }
-    ensures closed { IfOk result (λ found. IfNone found
-        (IsClosed (values_of trail.new.steps) (clauses_of kernel.now))) }
+    ensures failed { IfSome result (λ id.
+        IsFailedClause (clauses_of kernel.now) trail.new.steps id) }
+    ensures searching { IfNone result (IsSearching sizes.now kernel.now trail.new cursors.new) }
+    ensures full { IfNone result (IsFull kernel.now.variables (values_of trail.new.steps)) }
+    ensures closed { IfNone result (IsClosed (values_of trail.new.steps) (clauses_of kernel.now)) }
 {
     if !probe.is_on() {
         return descend(trail, cursors, kernel, sizes);
     }
-    match descend_by_probe(trail, probe, kernel)? {
-        Some(id) => Ok(Some(id)),
+    match descend_by_probe(trail, probe, kernel) {
+        Some(id) => Some(id),
         None => {
             begin_listing(trail, cursors);
             probe.phase = Phase::Listing;

@@ -219,7 +219,7 @@ impl Parts {
             &mut self.probe,
             &self.kernel,
             &self.sizes,
-        )?;
+        );
         match failed {
             None => {
                 write_row(&self.trail, &self.sizes, &mut self.row);

@@ -1,5 +1,5 @@
 //! What no clause says: that calls succeed while there is memory, and what propagation gives for some lists of clauses.
-ghost use Rattle.std.specs.Prelude.{◌≡◌, IsTrue, length, IfOk, IfNone, OnOk};
+ghost use Rattle.std.specs.Prelude.{◌≡◌, IsTrue, length, IfNone, OnOk};
 ghost use Rattle.cc_defs.specs.Clauses.{IsBefore, IsClause, IsOver, IsLiteralOver};
 ghost use Rattle.cc_defs.specs.Assignments.{IsClosed};
 ghost use Rattle.cc_kernel.specs.Kernels.{clauses_of};
@@ -155,42 +155,41 @@ fn add_rows(kernel: &mut Kernel, trail: &mut Trail, rows: &[Row]) -> Result<(), 
 }
 
 // Propagation at level 0.
-fn begun(kernel: &Kernel, trail: &mut Trail) -> Result<Option<u32>, OutOfMemory>
+fn begun(kernel: &Kernel, trail: &mut Trail) -> Option<u32>
     requires fits { Fits trail.old kernel.now }
     requires all { trail.old.attached ≡ length kernel.now.entries }
     ensures fits { Fits trail.new kernel.now }
     ensures all { trail.new.attached ≡ length kernel.now.entries }
     ensures settled { IsSettled trail.new kernel.now }
-    ensures closed { IfOk result (λ found. IfNone found
-        (IsClosed (values_of trail.new.steps) (clauses_of kernel.now))) }
+    ensures closed { IfNone result (IsClosed (values_of trail.new.steps) (clauses_of kernel.now)) }
 {
     trail.back_to(0);
     trail.propagate(kernel)
 }
 
 // Propagation at level 0, a decision, and propagation at level 1. 0 where it does not come so far.
-fn decided(kernel: &Kernel, trail: &mut Trail, number: i32) -> Result<Option<u32>, OutOfMemory>
+fn decided(kernel: &Kernel, trail: &mut Trail, number: i32) -> Option<u32>
     requires fits { Fits trail.old kernel.now }
     requires all { trail.old.attached ≡ length kernel.now.entries }
     ensures fits { Fits trail.new kernel.now }
     ensures all { trail.new.attached ≡ length kernel.now.entries }
 {
-    match begun(kernel, trail)? {
-        Some(_) => Ok(Some(0)),
+    match begun(kernel, trail) {
+        Some(_) => Some(0),
         None => match literal(number) {
             Some(lit) => {
                 if is_over(kernel, lit) && trail.level_of(lit.variable()).is_none() {
                     trail.decide(lit);
                     return trail.propagate(kernel);
                 }
-                Ok(Some(0))
+                Some(0)
             },
-            None => Ok(Some(0)),
+            None => Some(0),
         },
     }
 }
 
-fn either(kernel: &Kernel, trail: &mut Trail, number: i32) -> Result<Option<u32>, OutOfMemory>
+fn either(kernel: &Kernel, trail: &mut Trail, number: i32) -> Option<u32>
     requires fits { Fits trail.old kernel.now }
     requires all { trail.old.attached ≡ length kernel.now.entries }
     ensures fits { Fits trail.new kernel.now }
@@ -213,9 +212,9 @@ fn with_one_more(
     let mut kernel = Kernel::new(alloc, 11)?;
     let mut trail = Trail::new(alloc, &kernel)?;
     add_rows(&mut kernel, &mut trail, rows)?;
-    let _ = either(&kernel, &mut trail, before)?;
+    let _ = either(&kernel, &mut trail, before);
     add_row(&mut kernel, &mut trail, row)?;
-    let failed = either(&kernel, &mut trail, after)?;
+    let failed = either(&kernel, &mut trail, after);
     Ok((failed, trail.entries().len()))
 }
 
@@ -260,7 +259,7 @@ fn true_by(kernel: &Kernel, trail: &Trail, number: i32) -> Option<(u32, u32)>
 fn the_lamp_is_on(rt: HostRuntime) -> Result<(), Fail> {
     let kernel = lamp(rt.alloc())?;
     let mut trail = Trail::new(rt.alloc(), &kernel)?;
-    let failed = trail.propagate(&kernel)?;
+    let failed = trail.propagate(&kernel);
     assert!(rt; failed == None);
     assert!(rt; trail.entries().len() == 11);
     assert!(rt; trail.level_count() == 0);

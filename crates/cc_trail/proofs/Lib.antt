@@ -1,7 +1,8 @@
 mod Codes
-mod ListViews
-mod Listed
+mod Chains
 mod Linked
+mod LinkViews
+mod NodeViews
 mod StepLists
 mod Kept
 mod Marked

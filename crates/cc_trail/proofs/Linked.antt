@@ -1,289 +1,619 @@
--- What stays true of links: a walk begins and goes on, a node is moved to another list, the last one is taken out, two are added.
-use Rattle.std.proofs.Common.{◌≡◌, ◌≢◌, ◌∙◌, ℕ, ◌+◌, ◌-◌, ◌*◌, ◌<◌, ◌≤◌, zero, suc, inl, inr, List, [], ◌∷◌, ◌++◌, length, get_or, replicate, set, take, refl, sym, subst, ap, arith}
-use Rattle.std.specs.Prelude.{◌↔◌, drop, Result, Ok, Err, IsOk, if◌then◌else◌, is_ok}
-use Rattle.std.proofs.lemmas.Bool.{false≢true}
-use Rattle.std.proofs.lemmas.Bool.Decides.{eqb_tells}
-use Rattle.std.proofs.lemmas.List.{length-replicate, length-set, length-take-le, length_push, get_or-take, get_or-set_other, get_or-set_same, get_or_append_left, get_or_push, set_comm}
+-- What stays true of links: a walk along a chain begins, goes on and ends, a node is moved to another chain,
+-- or the last one is taken out, two are added.
+use Rattle.std.proofs.Common.{◌≡◌, ◌≢◌, ◌∙◌, ℕ, ◌+◌, ◌-◌, ◌*◌, ◌<◌, ◌≤◌, zero, suc, inl, inr, eqb, true, false, List, [], ◌∷◌, ◌++◌, length, get_or, set, take, refl, sym, subst, ap, arith, length-append}
+use Rattle.std.specs.Prelude.{◌↔◌, if◌then◌else◌, Bool, replicate, drop}
+use Rattle.std.proofs.lemmas.Bool.Decides.{eqb_tells, leb_tells}
+use Rattle.std.proofs.lemmas.List.{length-set, length-replicate, length-take-le, get_or-take, get_or-set_other, get_or-set_same, get_or_append_left, get_or-append-add}
 use Rattle.cc_defs.specs.Clauses.{Literal, IsIn, IsLiteralOver}
-use Rattle.cc_defs.specs.Limits.{most_variables}
 use Rattle.cc_trail.specs.Links.{BeginsWith, no_literal, watched_at, code_of}
-use Rattle.cc_trail.specs.LinkParts.{back_from, AreListed, AreLinks}
-use Rattle.cc_trail.specs.Lists.{list_at, without_place}
-use Rattle.cc_trail.proofs.Codes.{code_low, code_injective}
-use Rattle.cc_trail.proofs.Listed.{relisted, Others, Within, coded_by, AreListsOf, length_without, unmoved, last_or, all_taken, all_put_in, lists_of, are_listed}
+use Rattle.cc_trail.specs.LinkParts.{IsChain, chain_of, link_at, heads_relinked, next_relinked, AreLinks}
+use Rattle.cc_trail.proofs.Codes.{code_injective}
+use Rattle.cc_trail.proofs.Chains.{chain_within, first_once, chain_set, chain_append, chain_take, chain_is, IsLess, IsLeft, IsRelinked, walk_of, left_in, relinked}
 
--- ---- what is ahead
+bounds_by : (variables x : ℕ) (sign : Bool) → 0 < x → x ≤ variables → (2 ≤ 2 * x + (if sign then 1 else 0)) × (2 * x + (if sign then 1 else 0) < 2 * variables + 2)
+bounds_by variables x false low high = ((omega arith), (omega arith))
+bounds_by variables x true low high = ((omega arith), (omega arith))
 
-in_ahead : (n : ℕ) (numbers : List ℕ) (m : ℕ) → IsIn (back_from n numbers) m → (k : ℕ) × (k < n) × (get_or numbers k 0 ≡ m)
-in_ahead zero numbers m here = absurd here
-in_ahead (suc n) numbers m (inl same) = (n, omega arith, same)
-in_ahead (suc n) numbers m (inr more) = let old = in_ahead n numbers m more in (old.0, omega (arith, old.1), old.2)
+pub code_bounds : (variables : ℕ) (a : Literal) → IsLiteralOver variables a → (2 ≤ code_of a) × (code_of a < 2 * variables + 2)
+code_bounds variables a over = bounds_by variables a.variable a.positive over.0 over.1
 
-ahead_in : (n : ℕ) (numbers : List ℕ) (m k : ℕ) → k < n → get_or numbers k 0 ≡ m → IsIn (back_from n numbers) m
-ahead_in zero numbers m k low is = absurd (omega arith)
-ahead_in (suc n) numbers m k low is = elim (eqb_tells k n) [
-  | inl same ↦ inl (ap (λ (j : ℕ). get_or numbers j 0) (sym (same.1)) ∙ is)
-  | inr other ↦ inr (ahead_in n numbers m k (omega (arith, low, other.1)) is)
+-- a function changed at two numbers, the second one first
+abbrev pub changed : {X : Type 0} → ℕ → ℕ → X → X → (ℕ → X) → ℕ → X
+changed i j a b f n = if eqb n j then b else if eqb n i then a else f n
+
+-- a fact about two functions that are changed at the same numbers
+changed_all : {X Y : Type 0} (R : ℕ → X → Y → Type 0) (i j : ℕ) (a b : X) (f : ℕ → X) (c d : Y) (g : ℕ → Y) → R i a c → R j b d →
+    ((n : ℕ) → n ≢ i → n ≢ j → R n (f n) (g n)) → (n : ℕ) → R n (changed i j a b f n) (changed i j c d g n)
+changed_all R i j a b f c d g first second others n = elim (eqb_tells n j) [
+  | inl same ↦ rw (same.0) (rw (same.1) second)
+  | inr apart ↦ elim (eqb_tells n i) [
+    | inl same ↦ rw (apart.0, same.0) (rw (same.1) first)
+    | inr other ↦ rw (apart.0, other.0) (others n (other.1) (apart.1))
+  ]
 ]
 
-ahead_same : (n : ℕ) (xs ys : List ℕ) → ((k : ℕ) → k < n → get_or xs k 0 ≡ get_or ys k 0) → back_from n xs ≡ back_from n ys
-ahead_same zero xs ys same = refl
-ahead_same (suc n) xs ys same = λ i. same n (omega arith) i ∷ ahead_same n xs ys (λ k low. same k (omega arith)) i
+changed_each : {X : Type 0} (R : ℕ → X → Type 0) (i j : ℕ) (a b : X) (f : ℕ → X) → R i a → R j b →
+    ((n : ℕ) → n ≢ i → n ≢ j → R n (f n)) → (n : ℕ) → R n (changed i j a b f n)
+changed_each R i j a b f first second others = changed_all (λ n x y. R n x) i j a b f a b f first second others
 
-pub begins_at : (n place number : ℕ) (numbers : List ℕ) → n ≡ suc place → number ≡ get_or numbers place 0 → back_from n numbers ≡ number ∷ back_from place numbers
-begins_at n place number numbers e is = ap (λ (k : ℕ). back_from k numbers) e ∙ (λ i. sym is i ∷ back_from place numbers)
+changed_first : {X : Type 0} (i j : ℕ) (a b : X) (f : ℕ → X) → i ≢ j → changed i j a b f i ≡ a
+changed_first i j a b f apart = elim (eqb_tells i j) [
+  | inl same ↦ absurd (apart (same.1))
+  | inr other ↦ rw (other.0) (elim (eqb_tells i i) [
+    | inl same ↦ rw (same.0) refl
+    | inr no_way ↦ absurd (no_way.1 refl)
+  ])
+]
 
-first_of : (n : ℕ) (numbers : List ℕ) (node : ℕ) → BeginsWith (back_from n numbers) node →
-    (0 < n) × (node ≡ get_or numbers (n - 1) 0) × (drop 1 (back_from n numbers) ≡ back_from (n - 1) numbers)
-first_of zero numbers node begins = absurd (omega (arith, ap length (begins.1)))
-first_of (suc n) numbers node begins =
-    let e : suc n - 1 ≡ n = omega arith in (omega arith, rw e (sym (ap (λ (xs : List ℕ). get_or xs 0 0) (begins.1))), rw e refl)
+changed_second : {X : Type 0} (i j : ℕ) (a b : X) (f : ℕ → X) → changed i j a b f j ≡ b
+changed_second i j a b f = elim (eqb_tells j j) [
+  | inl same ↦ rw (same.0) refl
+  | inr no_way ↦ absurd (no_way.1 refl)
+]
 
-pub code_within : (lists : List (List ℕ)) (variables code : ℕ) (a : Literal) → length lists ≡ 2 * variables + 2 → IsLiteralOver variables a → code ≡ code_of a → code < length lists
-code_within lists variables code a count over is = let low = code_low variables a over in omega arith
+changed_other : {X : Type 0} (i j : ℕ) (a b : X) (f : ℕ → X) (n : ℕ) → n ≢ i → n ≢ j → changed i j a b f n ≡ f n
+changed_other i j a b f n first second = elim (eqb_tells n j) [
+  | inl same ↦ absurd (second (same.1))
+  | inr other ↦ rw (other.0) (elim (eqb_tells n i) [
+    | inl same ↦ absurd (first (same.1))
+    | inr apart ↦ rw (apart.0) refl
+  ])
+]
 
-none_at : (count code : ℕ) → list_at (replicate count []) code ≡ []
-none_at zero code = refl
-none_at (suc count) zero = refl
-none_at (suc count) (suc code) = none_at count code
+written : (heads : List ℕ) (i j a b : ℕ) → i < length heads → j < length heads → (n : ℕ) →
+    get_or (set (set heads i a) j b) n 0 ≡ changed i j a b (λ n. get_or heads n 0) n
+written heads i j a b i_within j_within n = elim (eqb_tells n j) [
+  | inl same ↦ rw (same.0) (rw (same.1) (get_or-set_same (set heads i a) j b 0 (subst (λ (k : ℕ). j < k) (sym (length-set heads i a)) j_within)))
+  | inr apart ↦ elim (eqb_tells n i) [
+    | inl same ↦ rw (apart.0, same.0) (get_or-set_other (set heads i a) j n b 0 (apart.1) ∙ rw (same.1) (get_or-set_same heads i a 0 i_within))
+    | inr other ↦ rw (apart.0, other.0) (get_or-set_other (set heads i a) j n b 0 (apart.1) ∙ get_or-set_other heads i n a 0 (other.1))
+  ]
+]
 
-pub no_links : (variables : ℕ) (lists : List (List ℕ)) (watched : List Literal) → variables ≤ most_variables → lists ≡ replicate (2 * variables + 2) [] → watched ≡ [] →
-    AreLinks variables lists watched 0 0
-no_links variables lists watched few lists_are watched_are =
-    let count = length-replicate {A = List ℕ} (2 * variables + 2) [] in
-    let none : (code place : ℕ) → place < length (list_at (replicate (2 * variables + 2) []) code) → ⊥ = λ code place low. let e = ap length (none_at (2 * variables + 2) code) in omega arith in
-    rw (lists_are, watched_are) (record {
-      variables_few = few;
-      lists_count = count;
-      watched_few = omega arith;
-      over = λ node low. absurd (omega arith);
-      walked_low = omega arith;
-      ahead_low = omega arith;
-      listed = record {
-        within = λ code place low. absurd (none code place low);
-        watching = λ code place low. absurd (none code place low);
-        there = λ node low. absurd (omega arith);
-        once = λ code place other low. absurd (none code place low);
+-- ---- a walk
+
+module _ (variables : ℕ) (heads next : List ℕ) (watched : List Literal) (walked before : ℕ) (links : AreLinks variables heads next watched walked before) where
+  walk : (left : List ℕ) × IsChain next (link_at heads next walked before) left × IsLeft before (links.linked.nodes walked) left
+  walk = walk_of heads next walked before (links.linked.nodes walked) (links.linked.chains walked) links.linked.passed
+
+  left_is : (xs : List ℕ) → chain_of (length next) next (link_at heads next walked before) ≡ xs → walk.0 ≡ xs
+  left_is xs is = sym (chain_is next (link_at heads next walked before) (walk.0) (walk.1)) ∙ is
+
+  left_chain : (xs : List ℕ) → chain_of (length next) next (link_at heads next walked before) ≡ xs → IsChain next (link_at heads next walked before) xs
+  left_chain xs is = subst (λ (ys : List ℕ). IsChain next (link_at heads next walked before) ys) (left_is xs is) (walk.1)
+
+  pub first_of : (node : ℕ) → link_at heads next walked before ≡ suc node →
+      BeginsWith (chain_of (length next) next (link_at heads next walked before)) node × (node < length watched)
+  first_of node link = at_first (walk.0) (walk.1) (chain_is next (link_at heads next walked before) (walk.0) (walk.1))
+    where
+      at_first : (xs : List ℕ) → IsChain next (link_at heads next walked before) xs → chain_of (length next) next (link_at heads next walked before) ≡ xs →
+          BeginsWith (chain_of (length next) next (link_at heads next walked before)) node × (node < length watched)
+      at_first [] chain is = absurd (omega (arith, link, chain))
+      at_first (x ∷ xs) chain is =
+          let same : x ≡ node = omega (arith, link, chain.0) in
+          let count = links.next_count in
+          let within : x < length next = chain.1 in ((xs, rw (← same) is), omega arith)
+
+  pub ahead_once : (node : ℕ) → BeginsWith (chain_of (length next) next (link_at heads next walked before)) node →
+      IsIn (drop 1 (chain_of (length next) next (link_at heads next walked before))) node → ⊥
+  ahead_once node begins = rw (begins.1) (first_once next (link_at heads next walked before) node (begins.0) (left_chain (node ∷ begins.0) (begins.1)))
+
+  pub none_first : link_at heads next walked before ≡ 0 → chain_of (length next) next (link_at heads next walked before) ≡ []
+  none_first link = rw link (chain_is next 0 [] refl)
+
+  pub before_low : before ≤ length next
+  before_low = low_of before links.linked.passed
+    where
+      low_of : (b : ℕ) → ((node : ℕ) → b ≡ suc node → IsIn (links.linked.nodes walked) node) → b ≤ length next
+      low_of zero passed = omega arith
+      low_of (suc b) passed =
+          let within : b < length next = chain_within next (get_or heads walked 0) (links.linked.nodes walked) b (links.linked.chains walked) (passed b refl) in
+          omega arith
+
+  -- it begins at a literal
+  module _ (literal : Literal) (over : IsLiteralOver variables literal) where
+    pub within_heads : code_of literal < length heads
+    within_heads =
+        let bounds = code_bounds variables literal over in
+        let count = links.heads_count in omega (arith, bounds.1)
+
+    pub links_begun : AreLinks variables heads next watched (code_of literal) 0
+    links_begun = record {
+      variables_few = links.variables_few;
+      heads_count = links.heads_count;
+      next_count = links.next_count;
+      next_few = links.next_few;
+      over = links.over;
+      walked_low = within_heads;
+      linked = record {
+        nodes = links.linked.nodes;
+        chains = links.linked.chains;
+        watching = links.linked.watching;
+        listed = links.linked.listed;
+        passed = λ node none. absurd (omega arith);
       };
-    })
+    }
 
-module _ (lists : List (List ℕ)) (watched : List Literal) (listed : AreListed lists watched) where
-  pub not_ahead : (code place : ℕ) → place < length (list_at lists code) → IsIn (back_from place (list_at lists code)) (get_or (list_at lists code) place 0) → ⊥
-  not_ahead code place within there =
-      let found = in_ahead place (list_at lists code) (get_or (list_at lists code) place 0) there in
-      let same = listed.once code (found.0) place (omega (arith, found.1, within)) within (found.2) in
-      omega (arith, same, found.1)
+    pub nodes_begun : (node : ℕ) → IsIn (chain_of (length next) next (get_or heads (code_of literal) 0)) node ↔ ((node < length watched) × (watched_at watched node ≡ literal))
+    nodes_begun node =
+        let count = links.next_count in
+        let is : chain_of (length next) next (get_or heads (code_of literal) 0) ≡ links.linked.nodes (code_of literal) =
+        chain_is next (get_or heads (code_of literal) 0) (links.linked.nodes (code_of literal)) (links.linked.chains (code_of literal)) in (
+          (λ there. watches (subst (λ (xs : List ℕ). IsIn xs node) is there)),
+          (λ here. let bound : node < length watched = here.0 in
+              subst (λ (xs : List ℕ). IsIn xs node) (sym is) (subst (λ (n : ℕ). IsIn (links.linked.nodes n) node) (ap code_of here.1) (links.linked.listed node (omega arith)))),
+        )
+      where
+        watches : IsIn (links.linked.nodes (code_of literal)) node → (node < length watched) × (watched_at watched node ≡ literal)
+        watches here =
+            let count = links.next_count in
+            let within = chain_within next (get_or heads (code_of literal) 0) (links.linked.nodes (code_of literal)) node (links.linked.chains (code_of literal)) here in
+            ((omega arith), code_injective (watched_at watched node) literal (links.linked.watching (code_of literal) node here))
 
-  pub nodes_begun : (literal : Literal) (node : ℕ) →
-      IsIn (back_from (length (list_at lists (code_of literal))) (list_at lists (code_of literal))) node ↔ ((node < length watched) × (watched_at watched node ≡ literal))
-  nodes_begun literal node = (
-    (λ there.
-        let found = in_ahead (length (list_at lists (code_of literal))) (list_at lists (code_of literal)) node there in
-        subst (λ (m : ℕ). (m < length watched) × (watched_at watched m ≡ literal)) (found.2) (
-          listed.within (code_of literal) (found.0) (found.1),
-          code_injective (watched_at watched (get_or (list_at lists (code_of literal)) (found.0) 0)) literal
-              (listed.watching (code_of literal) (found.0) (found.1)),
-        )),
-    (λ here.
-        let found = listed.there node (here.0) in
-        subst (λ (l : Literal). IsIn (back_from (length (list_at lists (code_of l))) (list_at lists (code_of l))) node) (here.1)
-        (ahead_in (length (list_at lists (coded_by watched node))) (list_at lists (coded_by watched node)) node (found.0) (found.1) (found.2))),
-  )
+  -- it ends
+  pub links_ended : AreLinks variables heads next watched 0 0
+  links_ended = record {
+    variables_few = links.variables_few;
+    heads_count = links.heads_count;
+    next_count = links.next_count;
+    next_few = links.next_few;
+    over = links.over;
+    walked_low = let count = links.heads_count in omega arith;
+    linked = record {
+      nodes = links.linked.nodes;
+      chains = links.linked.chains;
+      watching = links.linked.watching;
+      listed = links.linked.listed;
+      passed = λ node none. absurd (omega arith);
+    };
+  }
 
--- ---- the walk goes past a node, which is taken out of its list
+  pub none_ended : chain_of (length next) next (get_or heads 0 0) ≡ []
+  none_ended = chain_is next (get_or heads 0 0) (links.linked.nodes 0) (links.linked.chains 0) ∙ empty (links.linked.nodes 0) (links.linked.chains 0) (links.linked.watching 0)
+    where
+      empty : (xs : List ℕ) → IsChain next (get_or heads 0 0) xs → ((node : ℕ) → IsIn xs node → code_of (watched_at watched node) ≡ 0) → xs ≡ []
+      empty [] chain watching = refl
+      empty (x ∷ xs) chain watching =
+          let count = links.next_count in
+          let within : x < length next = chain.1 in
+          let high = (code_bounds variables (watched_at watched x) (links.over x (omega arith))).0 in
+          let none : code_of (watched_at watched x) ≡ 0 = watching x (inl refl) in
+          absurd (omega (arith, high))
 
-module _ (variables : ℕ) (lists : List (List ℕ)) (watched : List Literal) (walked ahead : ℕ) (links : AreLinks variables lists watched walked ahead)
-    (node : ℕ) (begins : BeginsWith (back_from ahead (list_at lists walked)) node) where
-  first : (0 < ahead) × (node ≡ get_or (list_at lists walked) (ahead - 1) 0) × (drop 1 (back_from ahead (list_at lists walked)) ≡ back_from (ahead - 1) (list_at lists walked))
-  first = first_of ahead (list_at lists walked) node begins
+  -- it goes past a node, which may be moved to the chain of another literal
+  module _ (node : ℕ) (rest : List ℕ) (begins : chain_of (length next) next (link_at heads next walked before) ≡ node ∷ rest) where
+    here_chain : IsChain next (link_at heads next walked before) (node ∷ rest)
+    here_chain = left_chain (node ∷ rest) begins
 
-  within : ahead - 1 < length (list_at lists walked)
-  within = omega (arith, first.0, links.ahead_low)
+    node_in : IsIn (links.linked.nodes walked) node
+    node_in = left_in before (links.linked.nodes walked) (walk.0) node (walk.2) (rw (left_is (node ∷ rest) begins) (inl refl))
 
-  pub node_within : node < length watched
-  node_within = subst (λ (m : ℕ). m < length watched) (sym (first.1)) (links.listed.within walked (ahead - 1) within)
+    pub node_within : (node < length next) × (node < length watched)
+    node_within = let count = links.next_count in let within : node < length next = here_chain.1 in (within, omega arith)
 
-  node_code : coded_by watched node ≡ walked
-  node_code = ap (coded_by watched) (first.1) ∙ links.listed.watching walked (ahead - 1) within
+    node_code : code_of (watched_at watched node) ≡ walked
+    node_code = links.linked.watching walked node node_in
 
-  taken : AreListsOf (Others (Within watched) node) (coded_by watched) (set lists walked (without_place (list_at lists walked) (ahead - 1)))
-  taken = all_taken (Within watched) (coded_by watched) lists walked (ahead - 1) node (lists_of lists watched links.listed) links.walked_low within (first.1)
+    pub links_passed : AreLinks variables heads next watched walked (suc node)
+    links_passed = record {
+      variables_few = links.variables_few;
+      heads_count = links.heads_count;
+      next_count = links.next_count;
+      next_few = links.next_few;
+      over = links.over;
+      walked_low = links.walked_low;
+      linked = record {
+        nodes = links.linked.nodes;
+        chains = links.linked.chains;
+        watching = links.linked.watching;
+        listed = links.linked.listed;
+        passed = λ m e. let same : node ≡ m = omega arith in subst (λ (k : ℕ). IsIn (links.linked.nodes walked) k) same node_in;
+      };
+    }
 
-  -- it is the last one
-  module _ (last : suc node ≡ length watched) (after : List (List ℕ)) (after_is : after ≡ set lists walked (without_place (list_at lists walked) (ahead - 1)))
-      (fewer : List Literal) (fewer_is : fewer ≡ take node watched) where
-    fewer_count : length fewer ≡ node
-    fewer_count = ap length fewer_is ∙ length-take-le node watched (omega arith)
+    pub chain_passed : chain_of (length next) next (get_or next node 0) ≡ rest
+    chain_passed = chain_is next (get_or next node 0) rest (here_chain.2)
 
-    still : (m : ℕ) → m < node → watched_at fewer m ≡ watched_at watched m
-    still m low = ap (λ (literals : List Literal). watched_at literals m) fewer_is ∙ get_or-take node watched m no_literal low
+    elsewhere : (code m : ℕ) → code ≢ walked → IsIn (links.linked.nodes code) m → IsIn (links.linked.nodes walked) m → ⊥
+    elsewhere code m other there here = other (sym (links.linked.watching code m there) ∙ links.linked.watching walked m here)
 
-    pub links_removed : AreLinks variables after fewer 0 0
-    links_removed =
-        let count : length after ≡ 2 * variables + 2 =
-        ap length after_is ∙ length-set lists walked (without_place (list_at lists walked) (ahead - 1)) ∙ links.lists_count in
-        record {
+    fresh : (code : ℕ) → code ≢ walked → IsIn (links.linked.nodes code) node → ⊥
+    fresh code other there = elsewhere code node other there node_in
+
+    cut : (others : List ℕ) × IsLess others (links.linked.nodes walked) node ×
+        IsRelinked (heads_relinked heads walked before (get_or next node 0)) (next_relinked next before (get_or next node 0)) walked before links.linked.nodes others rest
+    cut = relinked heads next walked before node (links.linked.nodes walked) rest links.linked.nodes links.walked_low (links.linked.chains walked) here_chain
+        (subst (λ (xs : List ℕ). IsLeft before (links.linked.nodes walked) xs) (left_is (node ∷ rest) begins) (walk.2))
+        (λ code _. links.linked.chains code) elsewhere
+
+    module _ (heads_now next_now : List ℕ) (heads_are : heads_now ≡ heads_relinked heads walked before (get_or next node 0))
+        (next_are : next_now ≡ next_relinked next before (get_or next node 0)) where
+      now : IsRelinked heads_now next_now walked before links.linked.nodes (cut.0) rest
+      now = rw (heads_are, next_are) (cut.2)
+
+      pub counts : (length heads_now ≡ length heads) × (length next_now ≡ length next)
+      counts = rw (heads_are, next_are) (counts_of before)
+        where
+          counts_of : (b : ℕ) → (length (heads_relinked heads walked b (get_or next node 0)) ≡ length heads) × (length (next_relinked next b (get_or next node 0)) ≡ length next)
+          counts_of zero = (length-set heads walked (get_or next node 0), refl)
+          counts_of (suc b) = (refl, length-set next b (get_or next node 0))
+
+      -- the last node is in no chain any more, and the lists end before it
+      module _ (last : suc node ≡ length next) where
+        cut_short : (head : ℕ) (xs : List ℕ) → IsChain next_now head xs → (IsIn xs node → ⊥) → IsChain (take node next_now) head xs
+        cut_short head xs chain not_here = chain_take next_now head xs node (last ∙ sym (counts.1)) chain not_here
+
+        watched_short : (m : ℕ) → m < node → watched_at (take node watched) m ≡ watched_at watched m
+        watched_short m low = get_or-take node watched m no_literal low
+
+        watching_short : (n m : ℕ) → IsIn (links.linked.nodes n) m → m ≢ node → code_of (watched_at (take node watched) m) ≡ n
+        watching_short n m here other =
+            let within : m < length next = chain_within next (get_or heads n 0) (links.linked.nodes n) m (links.linked.chains n) here in
+            ap code_of (watched_short m (omega arith)) ∙ links.linked.watching n m here
+
+        chains_removed : (n : ℕ) → IsChain (take node next_now) (get_or heads_now n 0) (changed walked walked (cut.0) (cut.0) links.linked.nodes n)
+        chains_removed =
+            let here : IsChain (take node next_now) (get_or heads_now walked 0) (cut.0) = cut_short (get_or heads_now walked 0) (cut.0) now.chain (cut.1).once in
+            changed_each (λ (n : ℕ) (xs : List ℕ). IsChain (take node next_now) (get_or heads_now n 0) xs) walked walked (cut.0) (cut.0) links.linked.nodes here here
+            (λ n other _. cut_short (get_or heads_now n 0) (links.linked.nodes n) (now.apart n other) (fresh n other))
+
+        watching_removed : (n : ℕ) → (m : ℕ) → IsIn (changed walked walked (cut.0) (cut.0) links.linked.nodes n) m → code_of (watched_at (take node watched) m) ≡ n
+        watching_removed =
+            changed_each (λ (n : ℕ) (xs : List ℕ). (m : ℕ) → IsIn xs m → code_of (watched_at (take node watched) m) ≡ n) walked walked (cut.0) (cut.0) links.linked.nodes
+            here here (λ n other _ m there. watching_short n m there (λ e. fresh n other (subst (λ (k : ℕ). IsIn (links.linked.nodes n) k) e there)))
+          where
+            here : (m : ℕ) → IsIn (cut.0) m → code_of (watched_at (take node watched) m) ≡ walked
+            here m there = watching_short walked m ((cut.1).wider m there) (λ e. (cut.1).once (subst (λ (k : ℕ). IsIn (cut.0) k) e there))
+
+        listed_removed : (m : ℕ) → m < node → IsIn (changed walked walked (cut.0) (cut.0) links.linked.nodes (code_of (watched_at (take node watched) m))) m
+        listed_removed m low = rw (watched_short m low) (still (code_of (watched_at watched m)) (links.linked.listed m (omega arith)))
+          where
+            still : (n : ℕ) → IsIn (links.linked.nodes n) m → IsIn (changed walked walked (cut.0) (cut.0) links.linked.nodes n) m
+            still n here = elim (eqb_tells n walked) [
+              | inl same ↦ rw (same.1) (rw (changed_second walked walked (cut.0) (cut.0) links.linked.nodes)
+                  (elim ((cut.1).narrower m (subst (λ (k : ℕ). IsIn (links.linked.nodes k) m) (same.1) here)) [
+                    | inl is ↦ absurd (omega arith)
+                    | inr there ↦ there
+                  ]))
+              | inr other ↦
+                  subst (λ (xs : List ℕ). IsIn xs m) (sym (changed_other walked walked (cut.0) (cut.0) links.linked.nodes n (other.1) (other.1))) here
+            ]
+
+        next_short : length (take node next_now) ≡ node
+        next_short = let same = counts.1 in length-take-le node next_now (omega arith)
+
+        watched_count : length (take node watched) ≡ node
+        watched_count = let count = links.next_count in length-take-le node watched (omega arith)
+
+        pub links_removed : AreLinks variables heads_now (take node next_now) (take node watched) 0 0
+        links_removed = record {
           variables_few = links.variables_few;
-          lists_count = count;
-          watched_few = omega (arith, fewer_count, node_within, links.watched_few);
-          over = λ m low.
-              let less : m < node = omega (arith, low, fewer_count) in
-              subst (λ (l : Literal). IsLiteralOver variables l) (sym (still m less)) (links.over m (omega (arith, less, last)));
-          walked_low = omega (arith, count);
-          ahead_low = omega arith;
-          listed = are_listed after fewer (subst (λ (ls : List (List ℕ)). AreListsOf (Within fewer) (coded_by fewer) ls) (sym after_is)
-              (λ code. relisted (Others (Within watched) node) (Within fewer) (coded_by watched) (coded_by fewer) code
-              (list_at (set lists walked (without_place (list_at lists walked) (ahead - 1))) code)
-              (λ m there is. let less : m < node = omega (arith, there.0, there.1, last) in (omega (arith, less, fewer_count), ap code_of (still m less) ∙ is))
-              (λ m there is. let less : m < node = omega (arith, there, fewer_count) in
-              ((omega (arith, less, last), λ e. omega (arith, e, less)), sym (ap code_of (still m less)) ∙ is))
-              (taken code)));
+          heads_count = counts.0 ∙ links.heads_count;
+          next_count = next_short ∙ sym watched_count;
+          next_few = let few = links.next_few in let count = next_short in omega arith;
+          over = λ m within.
+              let count = watched_count in
+              let before_count = links.next_count in
+              let low : m < node = omega arith in
+              rw (watched_short m low) (links.over m (omega arith));
+          walked_low = let count = links.heads_count in let same = counts.0 in omega arith;
+          linked = record {
+            nodes = changed walked walked (cut.0) (cut.0) links.linked.nodes;
+            chains = chains_removed;
+            watching = watching_removed;
+            listed = λ m within. listed_removed m (subst (λ (n : ℕ). m < n) next_short within);
+            passed = λ m none. absurd (omega arith);
+          };
         }
 
-  -- it is put behind the list of another literal
-  module _ (literal : Literal) (over : IsLiteralOver variables literal) (apart : watched_at watched node ≢ literal) (code : ℕ) (code_is : code ≡ code_of literal)
-      (pushed after : List (List ℕ)) (pushed_is : pushed ≡ set lists code (list_at lists code ++ node ∷ []))
-      (after_is : after ≡ set pushed walked (without_place (list_at pushed walked) (ahead - 1))) where
-    code_apart : code ≢ walked
-    code_apart same = apart (code_injective (watched_at watched node) literal (node_code ∙ sym same ∙ code_is))
+      module _ (literal : Literal) (over : IsLiteralOver variables literal) (apart : watched_at watched node ≢ literal) where
+        pub code_low : code_of literal < length heads
+        code_low = within_heads literal over
 
-    low : code < length lists
-    low = omega (arith, code_is, code_low variables literal over, links.lists_count)
+        code_apart : code_of literal ≢ walked
+        code_apart same = apart (code_injective (watched_at watched node) literal (node_code ∙ sym same))
 
-    pushed_walked : list_at pushed walked ≡ list_at lists walked
-    pushed_walked =
-        ap (λ (ls : List (List ℕ)). list_at ls walked) pushed_is
-        ∙ get_or-set_other lists code walked (list_at lists code ++ node ∷ []) [] (λ e. code_apart (sym e))
+        module _ (mark : ℕ) (mark_is : mark ≡ suc node) (link : ℕ) (link_is : link ≡ get_or heads_now (code_of literal) 0) where
+          -- a chain that the node is not in
+          kept : (head : ℕ) (xs : List ℕ) → IsChain next_now head xs → (IsIn xs node → ⊥) → IsChain (set next_now node link) head xs
+          kept head xs chain not_here = chain_set next_now head xs node link chain not_here
 
-    pub place_low : ahead - 1 < length (list_at pushed walked)
-    place_low = subst (λ (numbers : List ℕ). ahead - 1 < length numbers) (sym pushed_walked) within
+          head_kept : (code : ℕ) → code ≢ code_of literal → get_or (set heads_now (code_of literal) mark) code 0 ≡ get_or heads_now code 0
+          head_kept code other = get_or-set_other heads_now (code_of literal) code mark 0 other
 
-    pushed_count : length pushed ≡ length lists
-    pushed_count = ap length pushed_is ∙ length-set lists code (list_at lists code ++ node ∷ [])
+          watched_kept : (m : ℕ) → m ≢ node → watched_at (set watched node literal) m ≡ watched_at watched m
+          watched_kept m other = get_or-set_other watched node m literal no_literal other
 
-    after_walked : list_at after walked ≡ without_place (list_at lists walked) (ahead - 1)
-    after_walked =
-        ap (λ (ls : List (List ℕ)). list_at ls walked) after_is
-        ∙ get_or-set_same pushed walked (without_place (list_at pushed walked) (ahead - 1)) [] (omega (arith, pushed_count, links.walked_low))
-        ∙ ap (λ (numbers : List ℕ). without_place numbers (ahead - 1)) pushed_walked
+          watched_now : watched_at (set watched node literal) node ≡ literal
+          watched_now = get_or-set_same watched node literal no_literal (node_within.1)
 
-    after_turned : after ≡ set (set lists walked (without_place (list_at lists walked) (ahead - 1))) code
-        (list_at (set lists walked (without_place (list_at lists walked) (ahead - 1))) code ++ node ∷ [])
-    after_turned =
-        after_is
-        ∙ (λ i. set (pushed_is i) walked (without_place (pushed_walked i) (ahead - 1)))
-        ∙ set_comm lists code walked (list_at lists code ++ node ∷ []) (without_place (list_at lists walked) (ahead - 1)) code_apart
-        ∙ ap (λ (numbers : List ℕ). set (set lists walked (without_place (list_at lists walked) (ahead - 1))) code (numbers ++ node ∷ []))
-        (sym (get_or-set_other lists walked code (without_place (list_at lists walked) (ahead - 1)) [] code_apart))
+          nodes_moved : ℕ → List ℕ
+          nodes_moved = changed walked (code_of literal) (cut.0) (node ∷ links.linked.nodes (code_of literal)) links.linked.nodes
 
-    other_at : (m : ℕ) → m ≢ node → watched_at (set watched node literal) m ≡ watched_at watched m
-    other_at m other = get_or-set_other watched node m literal no_literal other
+          walked_is : changed walked (code_of literal) (cut.0) (node ∷ links.linked.nodes (code_of literal)) links.linked.nodes walked ≡ cut.0
+          walked_is = changed_first walked (code_of literal) (cut.0) (node ∷ links.linked.nodes (code_of literal)) links.linked.nodes (λ e. code_apart (sym e))
 
-    node_at : watched_at (set watched node literal) node ≡ literal
-    node_at = get_or-set_same watched node literal no_literal node_within
+          code_is : changed walked (code_of literal) (cut.0) (node ∷ links.linked.nodes (code_of literal)) links.linked.nodes (code_of literal) ≡ node ∷ links.linked.nodes (code_of literal)
+          code_is = changed_second walked (code_of literal) (cut.0) (node ∷ links.linked.nodes (code_of literal)) links.linked.nodes
 
-    same_count : length (set watched node literal) ≡ length watched
-    same_count = length-set watched node literal
+          chains_moved : (n : ℕ) → IsChain (set next_now node link) (get_or (set heads_now (code_of literal) mark) n 0)
+              (changed walked (code_of literal) (cut.0) (node ∷ links.linked.nodes (code_of literal)) links.linked.nodes n)
+          chains_moved =
+              let same_count = counts in
+              let within : node < length next = node_within.0 in
+              let low : code_of literal < length heads = code_low in
+              let count : length (set next_now node link) ≡ length next_now = length-set next_now node link in
+              let tail : IsChain (set next_now node link) (get_or (set next_now node link) node 0) (links.linked.nodes (code_of literal)) =
+              rw (get_or-set_same next_now node link 0 (omega (arith, same_count.1)))
+              (subst (λ (head : ℕ). IsChain (set next_now node link) head (links.linked.nodes (code_of literal))) (sym link_is)
+              (kept (get_or heads_now (code_of literal) 0) (links.linked.nodes (code_of literal)) (now.apart (code_of literal) code_apart) (fresh (code_of literal) code_apart))) in
+              changed_each (λ (n : ℕ) (xs : List ℕ). IsChain (set next_now node link) (get_or (set heads_now (code_of literal) mark) n 0) xs) walked (code_of literal)
+              (cut.0) (node ∷ links.linked.nodes (code_of literal)) links.linked.nodes
+              (rw (head_kept walked (λ e. code_apart (sym e))) (kept (get_or heads_now walked 0) (cut.0) now.chain (cut.1).once))
+              (rw (get_or-set_same heads_now (code_of literal) mark 0 (omega (arith, same_count.0))) (mark_is, (omega (arith, same_count.1)), tail))
+              (λ n other apart_too. rw (head_kept n apart_too) (kept (get_or heads_now n 0) (links.linked.nodes n) (now.apart n other) (fresh n other)))
 
-    others : AreListsOf (Others (Within (set watched node literal)) node) (coded_by (set watched node literal))
-        (set lists walked (without_place (list_at lists walked) (ahead - 1)))
-    others k =
-        relisted (Others (Within watched) node) (Others (Within (set watched node literal)) node) (coded_by watched) (coded_by (set watched node literal)) k
-        (list_at (set lists walked (without_place (list_at lists walked) (ahead - 1))) k)
-        (λ m there is. ((omega (arith, there.0, same_count), there.1), ap code_of (other_at m (there.1)) ∙ is))
-        (λ m there is. ((omega (arith, there.0, same_count), there.1), sym (ap code_of (other_at m (there.1))) ∙ is))
-        (taken k)
+          watching_moved : (n : ℕ) → (m : ℕ) → IsIn (changed walked (code_of literal) (cut.0) (node ∷ links.linked.nodes (code_of literal)) links.linked.nodes n) m →
+              code_of (watched_at (set watched node literal) m) ≡ n
+          watching_moved =
+              changed_each (λ (n : ℕ) (xs : List ℕ). (m : ℕ) → IsIn xs m → code_of (watched_at (set watched node literal) m) ≡ n) walked (code_of literal)
+              (cut.0) (node ∷ links.linked.nodes (code_of literal)) links.linked.nodes
+              (λ m here.
+              ap code_of (watched_kept m (λ e. (cut.1).once (subst (λ (k : ℕ). IsIn (cut.0) k) e here))) ∙ links.linked.watching walked m ((cut.1).wider m here))
+              behind
+              (λ n other _ m here. ap code_of (watched_kept m (λ e. fresh n other (subst (λ (k : ℕ). IsIn (links.linked.nodes n) k) e here))) ∙ links.linked.watching n m here)
+            where
+              behind : (m : ℕ) → IsIn (node ∷ links.linked.nodes (code_of literal)) m → code_of (watched_at (set watched node literal) m) ≡ code_of literal
+              behind m (inl same) = ap code_of (ap (λ (k : ℕ). watched_at (set watched node literal) k) (sym same) ∙ watched_now)
+              behind m (inr here) =
+                  ap code_of (watched_kept m (λ e. fresh (code_of literal) code_apart (subst (λ (k : ℕ). IsIn (links.linked.nodes (code_of literal)) k) e here))) ∙
+                  links.linked.watching (code_of literal) m here
 
-    pub links_moved : AreLinks variables after (set watched node literal) walked (ahead - 1)
-    links_moved =
-        let count : length after ≡ length lists =
-        ap length after_is ∙ length-set pushed walked (without_place (list_at pushed walked) (ahead - 1)) ∙ pushed_count in
-        record {
-          variables_few = links.variables_few;
-          lists_count = count ∙ links.lists_count;
-          watched_few = omega (arith, same_count, links.watched_few);
-          over = λ m m_within. elim (eqb_tells m node) [
-            | inl same ↦ subst (λ (l : Literal). IsLiteralOver variables l) (sym (ap (watched_at (set watched node literal)) (same.1) ∙ node_at)) over
-            | inr other ↦ subst (λ (l : Literal). IsLiteralOver variables l) (sym (other_at m (other.1))) (links.over m (omega (arith, m_within, same_count)))
-          ];
-          walked_low = omega (arith, count, links.walked_low);
-          ahead_low = omega (arith, ap length after_walked, length_without (list_at lists walked) (ahead - 1) within, links.ahead_low);
-          listed = are_listed after (set watched node literal)
-              (subst (λ (ls : List (List ℕ)). AreListsOf (Within (set watched node literal)) (coded_by (set watched node literal)) ls) (sym after_turned)
-              (all_put_in (Within (set watched node literal)) (coded_by (set watched node literal)) (set lists walked (without_place (list_at lists walked) (ahead - 1)))
-              node code others (omega (arith, node_within, same_count)) (ap code_of node_at ∙ sym code_is)
-              (omega (arith, low, length-set lists walked (without_place (list_at lists walked) (ahead - 1))))));
-        }
+          listed_moved : (m : ℕ) → m < length (set next_now node link) →
+              IsIn (changed walked (code_of literal) (cut.0) (node ∷ links.linked.nodes (code_of literal)) links.linked.nodes (code_of (watched_at (set watched node literal) m))) m
+          listed_moved m within =
+              let same_count = counts in
+              let count : length (set next_now node link) ≡ length next_now = length-set next_now node link in
+              elim (eqb_tells m node) [
+                | inl same ↦
+                    let mine : watched_at (set watched node literal) m ≡ literal = ap (λ (k : ℕ). watched_at (set watched node literal) k) (same.1) ∙ watched_now in
+                    rw mine (rw code_is (inl (sym (same.1))))
+                | inr other ↦
+                    rw (watched_kept m (other.1)) (old_listed m (other.1) (code_of (watched_at watched m)) (links.linked.listed m (omega (arith, same_count.1))))
+              ]
+            where
+              old_listed : (m : ℕ) → m ≢ node → (n : ℕ) → IsIn (links.linked.nodes n) m →
+                  IsIn (changed walked (code_of literal) (cut.0) (node ∷ links.linked.nodes (code_of literal)) links.linked.nodes n) m
+              old_listed m other n here = elim (eqb_tells n walked) [
+                | inl same ↦ rw (same.1) (rw walked_is (elim ((cut.1).narrower m (subst (λ (k : ℕ). IsIn (links.linked.nodes k) m) (same.1) here)) [
+                  | inl is ↦ absurd (other (sym is))
+                  | inr there ↦ there
+                ]))
+                | inr apart_walked ↦ elim (eqb_tells n (code_of literal)) [
+                  | inl same ↦ rw (same.1) (rw code_is (inr (subst (λ (k : ℕ). IsIn (links.linked.nodes k) m) (same.1) here)))
+                  | inr apart_code ↦
+                      subst (λ (xs : List ℕ). IsIn xs m)
+                      (sym (changed_other walked (code_of literal) (cut.0) (node ∷ links.linked.nodes (code_of literal)) links.linked.nodes n (apart_walked.1) (apart_code.1))) here
+                ]
+              ]
 
-    pub ahead_moved : back_from (ahead - 1) (list_at after walked) ≡ drop 1 (back_from ahead (list_at lists walked))
-    ahead_moved =
-        ap (back_from (ahead - 1)) after_walked
-        ∙ ahead_same (ahead - 1) (without_place (list_at lists walked) (ahead - 1)) (list_at lists walked)
-        (λ k less. unmoved (list_at lists walked) (ahead - 1) within k (omega (arith, less, within)) (λ e. omega (arith, e, less)))
-        ∙ sym (first.2)
+          pub links_moved : AreLinks variables (set heads_now (code_of literal) mark) (set next_now node link) (set watched node literal) walked before
+          links_moved = record {
+            variables_few = links.variables_few;
+            heads_count = length-set heads_now (code_of literal) mark ∙ counts.0 ∙ links.heads_count;
+            next_count = length-set next_now node link ∙ counts.1 ∙ links.next_count ∙ sym (length-set watched node literal);
+            next_few =
+                let same_count = counts in
+                let few = links.next_few in
+                let count : length (set next_now node link) ≡ length next_now = length-set next_now node link in omega (arith, same_count.1);
+            over = λ m within. elim (eqb_tells m node) [
+              | inl same ↦ rw (same.1) (rw watched_now over)
+              | inr other ↦
+                  let count : length (set watched node literal) ≡ length watched = length-set watched node literal in
+                  rw (watched_kept m (other.1)) (links.over m (omega arith))
+            ];
+            walked_low =
+                let same_count = counts in
+                let low = links.walked_low in
+                let count : length (set heads_now (code_of literal) mark) ≡ length heads_now = length-set heads_now (code_of literal) mark in omega (arith, same_count.0);
+            linked = record {
+              nodes = changed walked (code_of literal) (cut.0) (node ∷ links.linked.nodes (code_of literal)) links.linked.nodes;
+              chains = chains_moved;
+              watching = watching_moved;
+              listed = listed_moved;
+              passed = λ m e. rw walked_is (now.passed m e);
+            };
+          }
+
+          here_moved : (b : ℕ) → IsChain next_now (link_at heads_now next_now walked b) rest → ((m : ℕ) → b ≡ suc m → IsIn (cut.0) m) →
+              IsChain (set next_now node link) (link_at (set heads_now (code_of literal) mark) (set next_now node link) walked b) rest
+          here_moved zero chain passed =
+              rw (head_kept walked (λ e. code_apart (sym e))) (kept (get_or heads_now walked 0) rest chain (first_once next (link_at heads next walked before) node rest here_chain))
+          here_moved (suc b) chain passed =
+              rw (get_or-set_other next_now node b link 0 (λ e. (cut.1).once (subst (λ (k : ℕ). IsIn (cut.0) k) e (passed b refl))))
+              (kept (get_or next_now b 0) rest chain (first_once next (link_at heads next walked before) node rest here_chain))
+
+          pub chain_moved : chain_of (length (set next_now node link)) (set next_now node link)
+              (link_at (set heads_now (code_of literal) mark) (set next_now node link) walked before) ≡ rest
+          chain_moved = chain_is (set next_now node link) (link_at (set heads_now (code_of literal) mark) (set next_now node link) walked before) rest
+              (here_moved before now.here now.passed)
 
 -- ---- two nodes are added
 
--- what a push does that succeeds
-pub pushed : {A T E : Type 0} (result : Result T E) (old new : List A) (item : A) → new ≡ (if is_ok result then old ++ item ∷ [] else old) → IsOk result → new ≡ old ++ item ∷ []
-pushed (Ok value) old new item items ok = items
-pushed (Err error) old new item items ok = absurd (false≢true ok)
+module _ (variables : ℕ) (heads next : List ℕ) (watched : List Literal) (walked before : ℕ) (links : AreLinks variables heads next watched walked before)
+    (a b : Literal) (a_over : IsLiteralOver variables a) (b_over : IsLiteralOver variables b) (apart : a ≢ b)
+    (few : length watched < 4294966000) (one two : ℕ) (one_is : one ≡ get_or heads (code_of a) 0) (two_is : two ≡ get_or heads (code_of b) 0)
+    (first second : ℕ) (first_is : first ≡ suc (length watched)) (second_is : second ≡ suc (suc (length watched))) where
+  next_then : length (next ++ one ∷ two ∷ []) ≡ length watched + 2
+  next_then = let count = links.next_count in omega (arith, length-append next (one ∷ two ∷ []))
 
-pub pushed_len : {T E : Type 0} (result : Result T E) (old new : ℕ) → new ≡ (if is_ok result then old + 1 else old) → IsOk result → new ≡ old + 1
-pushed_len (Ok value) old new len ok = len
-pushed_len (Err error) old new len ok = absurd (false≢true ok)
+  codes_apart : code_of a ≢ code_of b
+  codes_apart same = apart (code_injective a b same)
 
-one_added : (lists : List (List ℕ)) (watched : List Literal) (literal : Literal) (node code : ℕ) → AreListed lists watched → node ≡ length watched →
-    code ≡ code_of literal → code < length lists → AreListed (set lists code (list_at lists code ++ node ∷ [])) (watched ++ literal ∷ [])
-one_added lists watched literal node code listed node_is code_is low =
-    are_listed (set lists code (list_at lists code ++ node ∷ [])) (watched ++ literal ∷ [])
-    (all_put_in (Within (watched ++ literal ∷ [])) (coded_by (watched ++ literal ∷ [])) lists node code others (omega (arith, node_is, more)) (ap code_of here ∙ sym code_is) low)
+  pub codes_low : (code_of a < length heads) × (code_of b < length heads)
+  codes_low =
+      let count = links.heads_count in
+      let a_bounds = code_bounds variables a a_over in
+      let b_bounds = code_bounds variables b b_over in
+      ((omega (arith, a_bounds.1)), omega (arith, b_bounds.1))
+
+  read_first : get_or (next ++ one ∷ two ∷ []) (length watched) 0 ≡ one
+  read_first = subst (λ (n : ℕ). get_or (next ++ one ∷ two ∷ []) n 0 ≡ one) (add_zero_is ∙ links.next_count) (get_or-append-add next (one ∷ two ∷ []) 0 0)
+    where
+      add_zero_is : length next + 0 ≡ length next
+      add_zero_is = omega arith
+
+  read_second : get_or (next ++ one ∷ two ∷ []) (suc (length watched)) 0 ≡ two
+  read_second = subst (λ (n : ℕ). get_or (next ++ one ∷ two ∷ []) n 0 ≡ two) add_one_is (get_or-append-add next (one ∷ two ∷ []) 1 0)
+    where
+      add_one_is : length next + 1 ≡ suc (length watched)
+      add_one_is = let count = links.next_count in omega arith
+
+  watched_first : watched_at (watched ++ a ∷ b ∷ []) (length watched) ≡ a
+  watched_first = subst (λ (n : ℕ). watched_at (watched ++ a ∷ b ∷ []) n ≡ a) add_zero_is (get_or-append-add watched (a ∷ b ∷ []) 0 no_literal)
+    where
+      add_zero_is : length watched + 0 ≡ length watched
+      add_zero_is = omega arith
+
+  watched_second : watched_at (watched ++ a ∷ b ∷ []) (suc (length watched)) ≡ b
+  watched_second = subst (λ (n : ℕ). watched_at (watched ++ a ∷ b ∷ []) n ≡ b) add_one_is (get_or-append-add watched (a ∷ b ∷ []) 1 no_literal)
+    where
+      add_one_is : length watched + 1 ≡ suc (length watched)
+      add_one_is = omega arith
+
+  watched_before : (m : ℕ) → m < length next → watched_at (watched ++ a ∷ b ∷ []) m ≡ watched_at watched m
+  watched_before m low = let count = links.next_count in get_or_append_left watched (a ∷ b ∷ []) no_literal m (omega arith)
+
+  old_low : (n m : ℕ) → IsIn (links.linked.nodes n) m → m < length next
+  old_low n m here = chain_within next (get_or heads n 0) (links.linked.nodes n) m (links.linked.chains n) here
+
+  chain_old : (n : ℕ) → IsChain (next ++ one ∷ two ∷ []) (get_or heads n 0) (links.linked.nodes n)
+  chain_old n = chain_append next (one ∷ two ∷ []) (get_or heads n 0) (links.linked.nodes n) (links.linked.chains n)
+
+  chains_added : (n : ℕ) → IsChain (next ++ one ∷ two ∷ []) (get_or (set (set heads (code_of a) first) (code_of b) second) n 0)
+      (changed (code_of a) (code_of b) (length watched ∷ links.linked.nodes (code_of a)) (suc (length watched) ∷ links.linked.nodes (code_of b)) links.linked.nodes n)
+  chains_added n =
+      let count = next_then in
+      subst (λ (head : ℕ). IsChain (next ++ one ∷ two ∷ []) head
+      (changed (code_of a) (code_of b) (length watched ∷ links.linked.nodes (code_of a)) (suc (length watched) ∷ links.linked.nodes (code_of b)) links.linked.nodes n))
+      (sym (written heads (code_of a) (code_of b) first second (codes_low.0) (codes_low.1) n))
+      (changed_all (λ (n head : ℕ) (list : List ℕ). IsChain (next ++ one ∷ two ∷ []) head list) (code_of a) (code_of b) first second (λ (n : ℕ). get_or heads n 0)
+      (length watched ∷ links.linked.nodes (code_of a)) (suc (length watched) ∷ links.linked.nodes (code_of b)) links.linked.nodes
+      (first_is, (omega arith), subst (λ (head : ℕ). IsChain (next ++ one ∷ two ∷ []) head (links.linked.nodes (code_of a))) (sym (read_first ∙ one_is)) (chain_old (code_of a)))
+      (second_is, (omega arith), subst (λ (head : ℕ). IsChain (next ++ one ∷ two ∷ []) head (links.linked.nodes (code_of b))) (sym (read_second ∙ two_is)) (chain_old (code_of b)))
+      (λ n _ _. chain_old n) n)
+
+  watching_added : (n : ℕ) → (m : ℕ) →
+      IsIn (changed (code_of a) (code_of b) (length watched ∷ links.linked.nodes (code_of a)) (suc (length watched) ∷ links.linked.nodes (code_of b)) links.linked.nodes n) m →
+      code_of (watched_at (watched ++ a ∷ b ∷ []) m) ≡ n
+  watching_added = changed_each (λ (n : ℕ) (xs : List ℕ). (m : ℕ) → IsIn xs m → code_of (watched_at (watched ++ a ∷ b ∷ []) m) ≡ n) (code_of a) (code_of b)
+      (length watched ∷ links.linked.nodes (code_of a)) (suc (length watched) ∷ links.linked.nodes (code_of b)) links.linked.nodes one_of two_of
+      (λ n _ _ m here. old_of n m here)
+    where
+      old_of : (n m : ℕ) → IsIn (links.linked.nodes n) m → code_of (watched_at (watched ++ a ∷ b ∷ []) m) ≡ n
+      old_of n m here = ap code_of (watched_before m (old_low n m here)) ∙ links.linked.watching n m here
+
+      one_of : (m : ℕ) → IsIn (length watched ∷ links.linked.nodes (code_of a)) m → code_of (watched_at (watched ++ a ∷ b ∷ []) m) ≡ code_of a
+      one_of m (inl same) = ap code_of (ap (λ (k : ℕ). watched_at (watched ++ a ∷ b ∷ []) k) (sym same) ∙ watched_first)
+      one_of m (inr here) = ap code_of (watched_before m (old_low (code_of a) m here)) ∙ links.linked.watching (code_of a) m here
+
+      two_of : (m : ℕ) → IsIn (suc (length watched) ∷ links.linked.nodes (code_of b)) m → code_of (watched_at (watched ++ a ∷ b ∷ []) m) ≡ code_of b
+      two_of m (inl same) = ap code_of (ap (λ (k : ℕ). watched_at (watched ++ a ∷ b ∷ []) k) (sym same) ∙ watched_second)
+      two_of m (inr here) = ap code_of (watched_before m (old_low (code_of b) m here)) ∙ links.linked.watching (code_of b) m here
+
+  first_nodes : changed (code_of a) (code_of b) (length watched ∷ links.linked.nodes (code_of a)) (suc (length watched) ∷ links.linked.nodes (code_of b)) links.linked.nodes (code_of a) ≡
+      length watched ∷ links.linked.nodes (code_of a)
+  first_nodes = changed_first (code_of a) (code_of b) (length watched ∷ links.linked.nodes (code_of a)) (suc (length watched) ∷ links.linked.nodes (code_of b)) links.linked.nodes codes_apart
+
+  second_nodes : changed (code_of a) (code_of b) (length watched ∷ links.linked.nodes (code_of a)) (suc (length watched) ∷ links.linked.nodes (code_of b)) links.linked.nodes (code_of b) ≡
+      suc (length watched) ∷ links.linked.nodes (code_of b)
+  second_nodes = changed_second (code_of a) (code_of b) (length watched ∷ links.linked.nodes (code_of a)) (suc (length watched) ∷ links.linked.nodes (code_of b)) links.linked.nodes
+
+  old_added : (n m : ℕ) → IsIn (links.linked.nodes n) m →
+      IsIn (changed (code_of a) (code_of b) (length watched ∷ links.linked.nodes (code_of a)) (suc (length watched) ∷ links.linked.nodes (code_of b)) links.linked.nodes n) m
+  old_added n m here = elim (eqb_tells n (code_of a)) [
+    | inl same ↦ rw (same.1) (rw first_nodes (inr (subst (λ (k : ℕ). IsIn (links.linked.nodes k) m) (same.1) here)))
+    | inr not_a ↦ elim (eqb_tells n (code_of b)) [
+      | inl same ↦ rw (same.1) (rw second_nodes (inr (subst (λ (k : ℕ). IsIn (links.linked.nodes k) m) (same.1) here)))
+      | inr not_b ↦ subst (λ (xs : List ℕ). IsIn xs m)
+          (sym (changed_other (code_of a) (code_of b) (length watched ∷ links.linked.nodes (code_of a)) (suc (length watched) ∷ links.linked.nodes (code_of b)) links.linked.nodes n
+          (not_a.1) (not_b.1))) here
+    ]
+  ]
+
+  listed_added : (m : ℕ) → m < length (next ++ one ∷ two ∷ []) →
+      IsIn (changed (code_of a) (code_of b) (length watched ∷ links.linked.nodes (code_of a)) (suc (length watched) ∷ links.linked.nodes (code_of b)) links.linked.nodes
+      (code_of (watched_at (watched ++ a ∷ b ∷ []) m))) m
+  listed_added m within =
+      let count = next_then in
+      let next_count = links.next_count in
+      elim (leb_tells (length next) m) [
+        | inr before ↦ let low : m < length next = before.1 in
+            rw (watched_before m low) (old_added (code_of (watched_at watched m)) m (links.linked.listed m low))
+        | inl past ↦ let far : length next ≤ m = past.1 in elim (eqb_tells m (length watched)) [
+          | inl same ↦ rw (same.1) (rw watched_first (rw first_nodes (inl refl)))
+          | inr other ↦
+              let not_first : m ≢ length watched = other.1 in
+              let is : m ≡ suc (length watched) = omega arith in
+              rw is (rw watched_second (rw second_nodes (inl refl)))
+        ]
+      ]
+
+  over_added : (m : ℕ) → m < length (watched ++ a ∷ b ∷ []) → IsLiteralOver variables (watched_at (watched ++ a ∷ b ∷ []) m)
+  over_added m within = elim (leb_tells (length watched) m) [
+    | inl past ↦
+        let count : length (watched ++ a ∷ b ∷ []) ≡ length watched + 2 = length-append watched (a ∷ b ∷ []) in
+        let far : length watched ≤ m = past.1 in
+        at (m - length watched) (omega arith) (omega arith)
+    | inr before ↦ let near : m < length watched = before.1 in rw (get_or_append_left watched (a ∷ b ∷ []) no_literal m near) (links.over m near)
+  ]
+    where
+      at : (k : ℕ) → m ≡ length watched + k → k < 2 → IsLiteralOver variables (watched_at (watched ++ a ∷ b ∷ []) m)
+      at zero is few = rw is (rw (get_or-append-add watched (a ∷ b ∷ []) 0 no_literal) a_over)
+      at (suc zero) is few = rw is (rw (get_or-append-add watched (a ∷ b ∷ []) 1 no_literal) b_over)
+      at (suc (suc k)) is few = absurd (omega arith)
+
+  pub links_added : AreLinks variables (set (set heads (code_of a) first) (code_of b) second) (next ++ one ∷ two ∷ []) (watched ++ a ∷ b ∷ []) 0 0
+  links_added = record {
+    variables_few = links.variables_few;
+    heads_count = length-set (set heads (code_of a) first) (code_of b) second ∙ length-set heads (code_of a) first ∙ links.heads_count;
+    next_count = next_then ∙ sym (length-append watched (a ∷ b ∷ []));
+    next_few = let count = next_then in omega arith;
+    over = over_added;
+    walked_low =
+        let count = links.heads_count in
+        let one_count : length (set heads (code_of a) first) ≡ length heads = length-set heads (code_of a) first in
+        let two_count : length (set (set heads (code_of a) first) (code_of b) second) ≡ length (set heads (code_of a) first) =
+        length-set (set heads (code_of a) first) (code_of b) second in omega arith;
+    linked = record {
+      nodes = changed (code_of a) (code_of b) (length watched ∷ links.linked.nodes (code_of a)) (suc (length watched) ∷ links.linked.nodes (code_of b)) links.linked.nodes;
+      chains = chains_added;
+      watching = watching_added;
+      listed = listed_added;
+      passed = λ m none. absurd (omega arith);
+    };
+  }
+
+-- ---- links of no clause
+
+pub links_made : (variables : ℕ) → variables ≤ 4000000 → AreLinks variables (replicate (2 * variables + 2) 0) [] [] 0 0
+links_made variables few = record {
+  variables_few = few;
+  heads_count = length-replicate (2 * variables + 2) 0;
+  next_count = refl;
+  next_few = omega arith;
+  over = λ node within. absurd (omega arith);
+  walked_low = rw (length-replicate {A = ℕ} (2 * variables + 2) 0) (omega arith);
+  linked = record {
+    nodes = λ _. [];
+    chains = λ code. all_zero (2 * variables + 2) code;
+    watching = λ code node here. elim here [ ];
+    listed = λ node within. absurd (omega arith);
+    passed = λ node none. absurd (omega arith);
+  };
+}
   where
-    more : length (watched ++ literal ∷ []) ≡ length watched + 1
-    more = length_push watched literal
-
-    here : watched_at (watched ++ literal ∷ []) node ≡ literal
-    here = get_or_push watched literal no_literal node (sym node_is)
-
-    still : (m : ℕ) → m < length watched → watched_at (watched ++ literal ∷ []) m ≡ watched_at watched m
-    still m m_low = get_or_append_left watched (literal ∷ []) no_literal m m_low
-
-    others : AreListsOf (Others (Within (watched ++ literal ∷ [])) node) (coded_by (watched ++ literal ∷ [])) lists
-    others k =
-        relisted (Within watched) (Others (Within (watched ++ literal ∷ [])) node) (coded_by watched) (coded_by (watched ++ literal ∷ [])) k (list_at lists k)
-        (λ m there is. ((omega (arith, there, more), λ e. omega (arith, e, there, node_is)), ap code_of (still m there) ∙ is))
-        (λ m there is. let before : m < length watched = omega (arith, there.0, there.1, more, node_is) in (before, sym (ap code_of (still m before)) ∙ is))
-        (lists_of lists watched listed k)
-
-over_added : (variables : ℕ) (watched : List Literal) (literal : Literal) → ((m : ℕ) → m < length watched → IsLiteralOver variables (watched_at watched m)) →
-    IsLiteralOver variables literal → (m : ℕ) → m < length (watched ++ literal ∷ []) → IsLiteralOver variables (watched_at (watched ++ literal ∷ []) m)
-over_added variables watched literal all over m low = elim (last_or watched literal no_literal m low) [
-  | inl last ↦ subst (λ (l : Literal). IsLiteralOver variables l) (sym (last.1)) over
-  | inr before ↦ subst (λ (l : Literal). IsLiteralOver variables l) (sym (before.1)) (all m (before.0))
-]
-
-pub links_added : (variables : ℕ) (lists : List (List ℕ)) (watched : List Literal) (walked ahead : ℕ) → AreLinks variables lists watched walked ahead →
-    (a b : Literal) → IsLiteralOver variables a → IsLiteralOver variables b → a ≢ b → (one two first second : ℕ) → one ≡ length watched → two ≡ one + 1 →
-    one < 4294966000 → first ≡ code_of a → second ≡ code_of b →
-    AreLinks variables (set (set lists first (list_at lists first ++ one ∷ [])) second (list_at lists second ++ two ∷ [])) ((watched ++ a ∷ []) ++ b ∷ []) 0 0
-links_added variables lists watched walked ahead links a b a_over b_over apart one two first second one_is two_is few first_is second_is =
-    let longer = length_push watched a in
-    let longest = length_push (watched ++ a ∷ []) b in
-    let count = length-set lists first (list_at lists first ++ one ∷ []) in
-    let count_then = length-set (set lists first (list_at lists first ++ one ∷ [])) second (list_at lists second ++ two ∷ []) in
-    let first_low : first < length lists = omega (arith, first_is, code_low variables a a_over, links.lists_count) in
-    let second_low : second < length (set lists first (list_at lists first ++ one ∷ [])) = omega (arith, second_is, code_low variables b b_over, links.lists_count, count) in
-    let codes_apart : second ≢ first = λ e. apart (code_injective a b (sym first_is ∙ sym e ∙ second_is)) in
-    record {
-      variables_few = links.variables_few;
-      lists_count = count_then ∙ count ∙ links.lists_count;
-      watched_few = omega (arith, longer, longest, one_is, few);
-      over = over_added variables (watched ++ a ∷ []) b (over_added variables watched a links.over a_over) b_over;
-      walked_low = omega (arith, count, count_then, links.lists_count);
-      ahead_low = omega arith;
-      listed =
-          subst (λ (numbers : List ℕ). AreListed (set (set lists first (list_at lists first ++ one ∷ [])) second (numbers ++ two ∷ [])) ((watched ++ a ∷ []) ++ b ∷ []))
-          (get_or-set_other lists first second (list_at lists first ++ one ∷ []) [] codes_apart)
-          (one_added (set lists first (list_at lists first ++ one ∷ [])) (watched ++ a ∷ []) b two second
-          (one_added lists watched a one first links.listed one_is first_is first_low) (omega (arith, two_is, one_is, longer)) second_is second_low);
-    }
+    all_zero : (n k : ℕ) → get_or {A = ℕ} (replicate n 0) k 0 ≡ 0
+    all_zero zero k = refl
+    all_zero (suc n) zero = refl
+    all_zero (suc n) (suc k) = all_zero n k

@@ -2,8 +2,7 @@ pub mod EntryParts
 pub mod EntrySteps
 pub mod LinkParts
 pub mod Links
-pub mod ListParts
-pub mod Lists
+pub mod NodeParts
 pub mod PairParts
 pub mod Pairs
 pub mod Steps

@@ -1,40 +1,59 @@
 -- How the parts of links make what their holder sees, and what is always true of them.
-use Rattle.std.specs.Prelude.{◌≡◌, ℕ, ◌+◌, ◌*◌, ◌<◌, ◌≤◌, zero, suc, List, [], ◌∷◌, length, get_or}
-use Rattle.cc_defs.specs.Clauses.{Literal, IsLiteralOver}
+use Rattle.std.specs.Prelude.{◌≡◌, ℕ, ◌+◌, ◌*◌, ◌<◌, ◌≤◌, zero, suc, List, [], ◌∷◌, length, get_or, set}
+use Rattle.cc_defs.specs.Clauses.{Literal, IsIn, IsLiteralOver}
 use Rattle.cc_defs.specs.Limits.{most_variables}
 use Rattle.cc_trail.specs.Links.{LinksView, watched_at, code_of}
-use Rattle.cc_trail.specs.Lists.{list_at}
 use Rattle.cc_trail.specs.declared.links.Links.TheInside.{Inside}
 
--- so many of the first numbers, from the last one of them back to the first
-abbrev pub back_from : ℕ → List ℕ → List ℕ
-back_from zero numbers = []
-back_from (suc place) numbers = get_or numbers place 0 ∷ back_from place numbers
+-- the nodes of a chain. A head, or what is next of a node, is 0 at the end and else one more than the node.
+abbrev pub IsChain : List ℕ → ℕ → List ℕ → Type 0
+IsChain next head [] = head ≡ 0
+IsChain next head (node ∷ nodes) = (head ≡ suc node) × (node < length next) × IsChain next (get_or next node 0) nodes
+
+-- at most so many nodes of a chain
+abbrev pub chain_of : ℕ → List ℕ → ℕ → List ℕ
+chain_of zero next head = []
+chain_of (suc most) next zero = []
+chain_of (suc most) next (suc node) = node ∷ chain_of most next (get_or next node 0)
+
+-- the link that a walk has come to: the head of the chain, or what is next of the node before
+abbrev pub link_at : List ℕ → List ℕ → ℕ → ℕ → ℕ
+link_at heads next walked zero = get_or heads walked 0
+link_at heads next walked (suc node) = get_or next node 0
+
+-- the heads and what is next of each node where this link is changed
+abbrev pub heads_relinked : List ℕ → ℕ → ℕ → ℕ → List ℕ
+heads_relinked heads walked zero link = set heads walked link
+heads_relinked heads walked (suc node) link = heads
+
+abbrev pub next_relinked : List ℕ → ℕ → ℕ → List ℕ
+next_relinked next zero link = next
+next_relinked next (suc node) link = set next node link
 
 abbrev pub view_of : Inside → LinksView
 view_of links = record {
   variables = links.variables;
-  watched = links.watched.items;
-  ahead = back_from links.ahead (list_at links.lists links.walked);
+  watched = links.nodes.watched;
+  ahead = chain_of (length links.nodes.next) links.nodes.next (link_at links.heads.items links.nodes.next links.walked links.before);
 }
 
--- The nodes of each list watch the literal of its code, each node is in the list of its literal, and there once.
-pub record AreListed (lists : List (List ℕ)) (watched : List Literal) : Type 0 where
-  pub within : (code place : ℕ) → place < length (list_at lists code) → get_or (list_at lists code) place 0 < length watched
-  pub watching : (code place : ℕ) → place < length (list_at lists code) → code_of (watched_at watched (get_or (list_at lists code) place 0)) ≡ code
-  pub there : (node : ℕ) → node < length watched →
-      (place : ℕ) × (place < length (list_at lists (code_of (watched_at watched node)))) × (get_or (list_at lists (code_of (watched_at watched node))) place 0 ≡ node)
-  pub once : (code place other : ℕ) → place < length (list_at lists code) → other < length (list_at lists code) →
-      get_or (list_at lists code) place 0 ≡ get_or (list_at lists code) other 0 → place ≡ other
+-- Each head has a chain, whose nodes watch the literal of its code, and each node is in the chain of its literal. The node
+-- that a walk went past last is in the chain that it walks.
+pub record IsLinked (heads next : List ℕ) (watched : List Literal) (walked before : ℕ) : Type 0 where
+  pub nodes : ℕ → List ℕ
+  pub chains : (code : ℕ) → IsChain next (get_or heads code 0) (nodes code)
+  pub watching : (code node : ℕ) → IsIn (nodes code) node → code_of (watched_at watched node) ≡ code
+  pub listed : (node : ℕ) → node < length next → IsIn (nodes (code_of (watched_at watched node))) node
+  pub passed : (node : ℕ) → before ≡ suc node → IsIn (nodes walked) node
 
-pub record AreLinks (variables : ℕ) (lists : List (List ℕ)) (watched : List Literal) (walked ahead : ℕ) : Type 0 where
+pub record AreLinks (variables : ℕ) (heads next : List ℕ) (watched : List Literal) (walked before : ℕ) : Type 0 where
   pub variables_few : variables ≤ most_variables
-  pub lists_count : length lists ≡ 2 * variables + 2
-  pub watched_few : length watched ≤ 4294967000
+  pub heads_count : length heads ≡ 2 * variables + 2
+  pub next_count : length next ≡ length watched
+  pub next_few : length next ≤ 4294967000
   pub over : (node : ℕ) → node < length watched → IsLiteralOver variables (watched_at watched node)
-  pub walked_low : walked < length lists
-  pub ahead_low : ahead ≤ length (list_at lists walked)
-  pub listed : AreListed lists watched
+  pub walked_low : walked < length heads
+  pub linked : IsLinked heads next watched walked before
 
 abbrev pub IsLinks : Inside → Type 0
-IsLinks links = AreLinks links.variables links.lists links.watched.items links.walked links.ahead
+IsLinks links = AreLinks links.variables links.heads.items links.nodes.next links.nodes.watched links.walked links.before

@@ -2,6 +2,11 @@
 use Rattle.std.specs.Prelude.{◌≡◌, ℕ, ◌+◌, ◌*◌, ◌<◌, ◌↔◌, false, if◌then◌else◌, List, ◌∷◌, length, get_or}
 use Rattle.cc_defs.specs.Clauses.{IsIn, Literal}
 
+-- what is next of each node, as a link, and the literal that it watches
+pub record NodesView : Type 0 where
+  pub next : List ℕ
+  pub watched : List Literal
+
 -- the number of variables, the literal that each node watches, and the nodes that are ahead of the walk that goes on, in order
 pub record LinksView : Type 0 where
   pub variables : ℕ

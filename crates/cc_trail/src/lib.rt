@@ -4,7 +4,7 @@
 mod entries;
 pub mod laws;
 mod links;
-mod lists;
+mod nodes;
 mod pairs;
 mod propagation;
 mod trail;

@@ -1,32 +1,33 @@
-//! Watch links: for each literal the nodes that watch it.
-ghost use Rattle.std.specs.Prelude.{◌≡◌, ◌≢◌, ◌-◌, ◌<◌, ◌≤◌, ◌++◌, [], ◌∷◌, length, set, take, drop, IfOk, IfSome, IfNone, OnOk, OnErr};
-ghost use Rattle.cc_defs.specs.Clauses.{IsIn, IsLiteralOver};
+//! Watch links: for each literal the chain of the nodes that watch it.
+ghost use Rattle.std.specs.Prelude.{◌≡◌, ◌≢◌, ℕ, ◌+◌, ◌-◌, ◌*◌, ◌<◌, ◌≤◌, ◌++◌, [], ◌∷◌, length, set, take, drop, Contains, IfOk, IfSome, IfNone, OnOk, OnErr, Ok};
+ghost use Rattle.cc_defs.specs.Clauses.{Literal, IsIn, IsLiteralOver};
 ghost use Rattle.cc_defs.specs.Limits.{most_variables};
-ghost use Rattle.cc_trail.specs.Links.{LinksView, AreAhead, BeginsWith, code_of, watched_at};
+ghost use Rattle.cc_trail.specs.Links.{LinksView, NodesView, AreAhead, BeginsWith, code_of, watched_at};
+ghost use Rattle.cc_trail.specs.LinkParts.{link_at, heads_relinked, next_relinked};
 
-use crate::lists::Lists;
+use crate::nodes::Nodes;
 use cc_defs::{Lit, OutOfMemory};
 use std::alloc::Global;
 use std::marker::Model;
 
-// Nodes are numbered below this, so that one fits.
+// Nodes are numbered below this, so that a link fits.
 const MOST_NODES: usize = 4294966000;
 
-// So far from the end of its list a node is near.
-const NEAR: usize = 16;
+// So far from the first node of its chain a node is near.
+const NEAR: u32 = 16;
 
-/// The watched literals of clauses, and for each literal the nodes that watch it.
+/// The watched literals of clauses, and for each literal the chain of the nodes that watch it. A head and a link are 0
+/// at a chain's end, and else one more than the next node.
 #[derive(Drop)]
 pub struct Links {
     variables: u32,
     // By the code of a literal.
-    lists: Lists,
-    // By node.
-    watched: Vec<Lit>,
-    // The walk that goes on: the code of the literal whose nodes it goes along, and how many of these are ahead of it; it comes from
-    // the last one, so that what it takes out is replaced by one that it went past. At rest both are 0.
+    heads: Vec<u32>,
+    nodes: Nodes,
+    // The walk that goes on: the code of the literal whose chain it goes along, and one more than the node that it went past
+    // last; 0 where the head of the chain comes next. At rest both are 0.
     walked: usize,
-    ahead: usize,
+    before: u32,
 }
 
 impl Model for Links {
@@ -48,6 +49,32 @@ pub fn code(lit: Lit) -> usize
     2 * lit.variable() as usize + usize::from(lit.is_positive())
 }
 
+// The link that a walk has come to: the head of its chain, or what is next of the node before.
+fn link_of(heads: &[u32], nodes: &Nodes, walked: usize, before: u32) -> u32
+    requires walked { walked < length heads.now }
+    requires before { before ≤ length nodes.now.next }
+    ensures { result ≡ link_at heads.now nodes.now.next walked before }
+{
+    match before.checked_sub(1) {
+        Some(node) => nodes.next(node as usize),
+        None => heads[walked],
+    }
+}
+
+// Changes this link.
+fn relink(heads: &mut Vec<u32>, nodes: &mut Nodes, walked: usize, before: u32, link: u32)
+    requires walked { walked < length heads.old.items }
+    requires before { before ≤ length nodes.old.next }
+    ensures heads { heads.new.items ≡ heads_relinked heads.old.items walked before link }
+    ensures nodes { nodes.new
+        ≡ record nodes.old { next = next_relinked nodes.old.next before link } }
+{
+    match before.checked_sub(1) {
+        Some(node) => nodes.link(node as usize, link),
+        None => heads[walked] = link,
+    }
+}
+
 impl Links {
     /// Links of no clause.
     pub fn new(alloc: Global, variables: u32) -> Result<Links, OutOfMemory>
@@ -55,13 +82,13 @@ impl Links {
         ensures { IfOk result (λ links.
             links ≡ record { variables = variables; watched = []; ahead = [] }) }
     {
-        let lists = Lists::new(alloc, 2 * variables as usize + 2)?;
+        let heads = vec![in alloc; 0u32; 2 * variables as usize + 2]?;
         Ok(Links {
             variables,
-            lists,
-            watched: Vec::new(alloc),
+            heads,
+            nodes: Nodes::new(alloc),
             walked: 0,
-            ahead: 0,
+            before: 0,
         })
     }
 
@@ -70,7 +97,7 @@ impl Links {
         ensures count { result ≡ length self.now.watched }
         ensures few { result ≤ 4294967000 }
     {
-        self.watched.len()
+        self.nodes.count()
     }
 
     /// The literal that a node watches.
@@ -79,7 +106,7 @@ impl Links {
         ensures watched { result ≡ watched_at self.now.watched node }
         ensures over { IsLiteralOver self.now.variables result }
     {
-        self.watched[node as usize]
+        self.nodes.watched(node as usize)
     }
 
     /// Begins a walk to all nodes that watch a literal.
@@ -87,9 +114,8 @@ impl Links {
         requires { IsLiteralOver self.old.variables lit }
         ensures { AreAhead self.old self.new lit }
     {
-        let list = code(lit);
-        self.walked = list;
-        self.ahead = self.lists.len(list);
+        self.walked = code(lit);
+        self.before = 0;
     }
 
     /// The node that the walk has come to.
@@ -100,10 +126,7 @@ impl Links {
         ensures once { IfSome result (λ node. IsIn (drop 1 self.now.ahead) node → ⊥) }
         ensures none { IfNone result (self.now.ahead ≡ []) }
     {
-        match self.ahead.checked_sub(1) {
-            Some(place) => Some(self.lists.number(self.walked, place)),
-            None => None,
-        }
+        link_of(&self.heads, &self.nodes, self.walked, self.before).checked_sub(1)
     }
 
     /// Goes on, and leaves the node that the walk has come to where it is.
@@ -111,44 +134,50 @@ impl Links {
         requires { BeginsWith self.old.ahead node }
         ensures { self.new ≡ record self.old { ahead = drop 1 self.old.ahead } }
     {
-        self.ahead -= 1;
+        let _walked = self.walked;
+        self.before = node + 1;
     }
 
-    // Goes on, and moves the node that the walk has come to into the list of another literal, which it watches then.
-    fn transfer(&mut self, node: u32, lit: Lit) -> Result<(), OutOfMemory>
+    // Goes on, and moves the node that the walk has come to into the chain of another literal, which it watches then.
+    fn transfer(&mut self, node: u32, lit: Lit)
         requires first { BeginsWith self.old.ahead node }
         requires over { IsLiteralOver self.old.variables lit }
         requires apart { watched_at self.old.watched node ≢ lit }
-        ensures moved { OnOk result (self.new ≡ record self.old {
+        ensures { self.new ≡ record self.old {
           watched = set self.old.watched node lit;
           ahead = drop 1 self.old.ahead;
-        }) }
-        ensures kept { OnErr result (self.new ≡ self.old) }
+        } }
     {
-        self.lists.push(code(lit), node)?;
-        let place = self.ahead - 1;
-        self.lists.take_out(self.walked, place);
-        self.watched[node as usize] = lit;
-        self.ahead = place;
-        Ok(())
+        let code = code(lit);
+        let place = node as usize;
+        let link = self.nodes.next(place);
+        relink(
+            &mut self.heads,
+            &mut self.nodes,
+            self.walked,
+            self.before,
+            link,
+        );
+        let first = self.heads[code];
+        self.nodes.put(place, first, lit);
+        self.heads[code] = node + 1;
     }
 
     /// Goes on, and lets the node that the walk has come to watch this literal.
-    pub fn put(&mut self, node: u32, lit: Lit) -> Result<(), OutOfMemory>
+    pub fn put(&mut self, node: u32, lit: Lit)
         requires first { BeginsWith self.old.ahead node }
         requires within { node < length self.old.watched }
         requires over { IsLiteralOver self.old.variables lit }
-        ensures put { OnOk result (self.new ≡ record self.old {
+        ensures { self.new ≡ record self.old {
           watched = set self.old.watched node lit;
           ahead = drop 1 self.old.ahead;
-        }) }
-        ensures kept { OnErr result (self.new ≡ self.old) }
+        } }
     {
         if self.watched(node) == lit {
             self.pass(node);
-            return Ok(());
+        } else {
+            self.transfer(node, lit);
         }
-        self.transfer(node, lit)
     }
 
     /// Ends a walk.
@@ -156,19 +185,23 @@ impl Links {
         ensures { self.new ≡ record self.old { ahead = [] } }
     {
         self.walked = 0;
-        self.ahead = 0;
+        self.before = 0;
     }
 
-    /// Whether a node is one of the last of its list. Nothing is claimed of it: where one that is far from the end is taken out, that
-    /// takes long.
+    /// Whether a node is one of the first of its chain. Nothing is claimed of it: where one that is far from the first is taken
+    /// out, that takes long.
     pub fn is_near(&self, node: u32) -> bool
         requires { node < length self.now.watched }
     {
-        let list = code(self.watched(node));
-        let count = self.lists.len(list);
-        for place in count.saturating_sub(NEAR)..count {
-            if self.lists.number(list, place) == node {
-                return true;
+        let mut link = self.heads[code(self.watched(node))];
+        for _ in 0..NEAR {
+            match link.checked_sub(1) {
+                Some(other) => if other == node {
+                    return true;
+                } else if (other as usize) < self.nodes.count() {
+                    link = self.nodes.next(other as usize);
+                },
+                None => return false,
             }
         }
         false
@@ -190,7 +223,7 @@ impl Links {
         }
     }
 
-    /// Takes the last node out of its list. No walk goes on then.
+    /// Takes the last node out of its chain. No walk goes on then.
     pub fn remove_last(&mut self)
         requires none { self.old.ahead ≡ [] }
         requires some { 0 < length self.old.watched }
@@ -198,12 +231,19 @@ impl Links {
           watched = take (length self.old.watched - 1) self.old.watched;
         } }
     {
-        let last = self.watched.len() - 1;
+        let last = self.nodes.count() - 1;
         self.walk_to(last as u32);
-        self.lists.take_out(self.walked, self.ahead - 1);
-        let _ = self.watched.pop();
+        let link = self.nodes.next(last);
+        relink(
+            &mut self.heads,
+            &mut self.nodes,
+            self.walked,
+            self.before,
+            link,
+        );
+        self.nodes.remove_last();
         self.walked = 0;
-        self.ahead = 0;
+        self.before = 0;
     }
 
     /// Adds two nodes that watch these literals. No walk goes on then.
@@ -216,18 +256,19 @@ impl Links {
             (self.new ≡ record self.old { watched = self.old.watched ++ a ∷ b ∷ [] }) }
         ensures kept { OnErr result (self.new ≡ self.old) }
     {
-        let count = self.watched.len();
+        let count = self.nodes.count();
         if count >= MOST_NODES {
             return Err(OutOfMemory);
         }
-        let one = count as u32;
-        self.watched.reserve(2)?;
-        self.lists.push_two(code(a), one, code(b), one + 1)?;
-        // There is room for both.
-        let _ = self.watched.push(a);
-        let _ = self.watched.push(b);
+        let first = code(a);
+        let second = code(b);
+        let one = self.heads[first];
+        let two = self.heads[second];
+        self.nodes.add_two(one, a, two, b)?;
+        self.heads[first] = count as u32 + 1;
+        self.heads[second] = count as u32 + 2;
         self.walked = 0;
-        self.ahead = 0;
+        self.before = 0;
         Ok(())
     }
 }

@@ -1,5 +1,5 @@
 //! Propagation: clauses of fewer than two literals, and then the steps that have not been visited.
-ghost use Rattle.std.specs.Prelude.{◌≡◌, ℕ, ◌<◌, ◌⊎◌, [], length, take, IfOk, IfSome, IfNone};
+ghost use Rattle.std.specs.Prelude.{◌≡◌, ℕ, ◌<◌, ◌⊎◌, [], length, take, IfSome, IfNone};
 ghost use Rattle.cc_kernel.specs.Kernels.{clauses_of};
 ghost use Rattle.cc_defs.specs.Clauses.{IsIn};
 ghost use Rattle.cc_trail.specs.Watches.{IsShort};
@@ -11,7 +11,6 @@ use crate::entries::Entries;
 use crate::links::Links;
 use crate::pairs::Pairs;
 use crate::visits::{make_true, visit_pairs, visit_step};
-use cc_defs::OutOfMemory;
 use cc_kernel::Kernel;
 
 // Makes the literal of a clause of fewer than two literals true. The clause's number where it is false.
@@ -82,7 +81,7 @@ pub fn visit_steps(
     links: &mut Links,
     pairs: &Pairs,
     visited: &mut usize,
-) -> Result<Option<u32>, OutOfMemory>
+) -> Option<u32>
     requires variables { pairs.now.variables ≡ entries.old.variables }
     requires sound { AreSound kernel.now entries.old }
     requires watched { AreWatched kernel.now longs.now visited.old entries.old links.old }
@@ -96,19 +95,18 @@ pub fn visit_steps(
     ensures followed { AreFollowed
         pairs.now (take visited.new entries.new.steps) entries.new.steps }
     ensures none { links.new.ahead ≡ [] }
-    ensures all { IfOk result (λ found.
-        IfNone found (visited.new ≡ length entries.new.steps)) }
-    ensures failed { IfOk result (λ found. IfSome found (λ number.
-        IsFailedClause (clauses_of kernel.now) entries.new.steps number)) }
+    ensures all { IfNone result (visited.new ≡ length entries.new.steps) }
+    ensures failed { IfSome result (λ number.
+        IsFailedClause (clauses_of kernel.now) entries.new.steps number) }
 {
     while *visited < entries.count() {
-        if let Some(number) = visit_step(kernel, longs, *visited, entries, links)? {
-            return Ok(Some(number));
+        if let Some(number) = visit_step(kernel, longs, *visited, entries, links) {
+            return Some(number);
         }
         if let Some(number) = visit_pairs(kernel, pairs, *visited, entries) {
-            return Ok(Some(number));
+            return Some(number);
         }
         *visited += 1;
     }
-    Ok(None)
+    None
 }

@@ -126,9 +126,9 @@ impl Trail {
     {
         let variables = kernel.variables();
         Ok(Trail {
-            pairs: Pairs::over(alloc, kernel)?,
-            links: Links::new(alloc, variables)?,
             entries: Entries::new(alloc, variables)?,
+            links: Links::new(alloc, variables)?,
+            pairs: Pairs::over(alloc, kernel)?,
             attached: 0,
             shorts: Vec::new(alloc),
             longs: Vec::new(alloc),
@@ -144,23 +144,10 @@ impl Trail {
         ensures settled { IfOk result (λ trail. IsSettled trail kernel.now) }
     {
         let mut trail = Trail::empty(alloc, kernel)?;
-        match trail.attach_all(kernel) {
-            Ok(()) => Ok(trail),
-            Err(error) => Err(error),
-        }
-    }
-
-    // Attaches the clauses of a kernel, where none is attached and no variable has a value.
-    fn attach_all(&mut self, kernel: &Kernel) -> Result<(), OutOfMemory>
-        requires { IsEmptyOver kernel.now.variables self.old }
-        ensures new { OnOk result (IsNew self.new kernel.now) }
-        ensures fits { OnOk result (Fits self.new kernel.now) }
-        ensures settled { OnOk result (IsSettled self.new kernel.now) }
-    {
         for index in 0..kernel.count() {
-            self.attach(kernel, index + 1)?;
+            trail.attach(kernel, index + 1)?;
         }
-        Ok(())
+        Ok(trail)
     }
 
     // Attaches a clause of fewer than two literals.
@@ -203,8 +190,7 @@ impl Trail {
     {
         self.longs.reserve(1)?;
         self.links.add_two(pair.first, pair.second)?;
-        // There is room.
-        let _ = self.longs.push(id);
+        self.longs.push(id)?;
         self.visited = entries_before(&self.entries, self.visited, pair.first, pair.second);
         self.attached = id;
         Ok(())
@@ -315,8 +301,7 @@ impl Trail {
     {
         self.longs.reserve(1)?;
         self.links.add_two(pair.first, pair.second)?;
-        // There is room.
-        let _ = self.longs.push(id);
+        self.longs.push(id)?;
         self.entries.push(pair.first, Some(id));
         self.attached = id;
         Ok(())
@@ -367,20 +352,20 @@ impl Trail {
     /// Unit propagation: makes literals true at the last level, each by a clause whose other literals are false, for as
     /// long as there is such a clause. None where no clause is false and none is left with one literal that has no value
     /// and all others false; else the number of a clause that is false.
-    pub fn propagate(&mut self, kernel: &Kernel) -> Result<Option<u32>, OutOfMemory>
+    pub fn propagate(&mut self, kernel: &Kernel) -> Option<u32>
         requires fits { Fits self.old kernel.now }
         requires all { self.old.attached ≡ length kernel.now.entries }
         requires settled { IsSettled self.old kernel.now }
         ensures propagated { IsPropagated self.old self.new }
         ensures fits { Fits self.new kernel.now }
         ensures settled { IsSettled self.new kernel.now }
-        ensures failed { IfOk result (λ found. IfSome found (λ id.
-            IsFailedClause (clauses_of kernel.now) self.new.steps id)) }
-        ensures closed { IfOk result (λ found. IfNone found
-            (IsClosed (values_of self.new.steps) (clauses_of kernel.now))) }
+        ensures failed { IfSome result (λ id.
+            IsFailedClause (clauses_of kernel.now) self.new.steps id) }
+        ensures closed { IfNone result
+            (IsClosed (values_of self.new.steps) (clauses_of kernel.now)) }
     {
         if let Some(number) = make_shorts(kernel, &self.shorts, self.met, &mut self.entries) {
-            return Ok(Some(number));
+            return Some(number);
         }
         self.met = met_for_good(&self.entries, self.met, self.shorts.len());
         visit_steps(

@@ -1,5 +1,5 @@
 //! Visits of the nodes that watch a literal that became false.
-ghost use Rattle.std.specs.Prelude.{◌≡◌, ◌≢◌, ℕ, ◌+◌, ◌<◌, ◌≤◌, true, false, IsTrue, [], length, take, drop, All, Contains, IfOk, IfSome, IfNone, Some, None};
+ghost use Rattle.std.specs.Prelude.{◌≡◌, ◌≢◌, ℕ, ◌+◌, ◌<◌, ◌≤◌, true, false, IsTrue, [], length, take, drop, All, Contains, IfSome, IfNone, Some, None};
 ghost use Rattle.cc_kernel.specs.Kernels.{KernelView, clauses_of};
 ghost use Rattle.cc_defs.specs.Clauses.{IsIn, IsLiteralOver};
 ghost use Rattle.cc_trail.specs.Links.{BeginsWith, watched_at};
@@ -11,7 +11,7 @@ ghost use Rattle.cc_trail.specs.Visits.{IsFalseAt, IsBest, IsValue, AreSound, Ar
 use crate::entries::{Entries, Step};
 use crate::links::Links;
 use crate::pairs::Pairs;
-use cc_defs::{Lit, OutOfMemory};
+use cc_defs::Lit;
 use cc_kernel::Kernel;
 
 /// A literal that may be watched: one that is not false, or one that became false at this level.
@@ -174,40 +174,40 @@ fn visit(
     node: u32,
     entries: &mut Entries,
     links: &mut Links,
-) -> Result<Option<u32>, OutOfMemory>
+) -> Option<u32>
     requires visiting { IsVisiting kernel.now longs.now place step.now entries.old links.old }
     requires first { BeginsWith links.old.ahead node }
     requires once { IsIn (drop 1 links.old.ahead) node → ⊥ }
     ensures visiting { IsVisiting kernel.now longs.now place step.now entries.new links.new }
     ensures grown { AreGrown entries.old entries.new }
-    ensures fewer { IfOk result (λ found. IfNone found (links.new.ahead ≡ drop 1 links.old.ahead)) }
-    ensures failed { IfOk result (λ found. IfSome found (λ number.
-        IsFailedClause (clauses_of kernel.now) entries.new.steps number)) }
+    ensures fewer { IfNone result (links.new.ahead ≡ drop 1 links.old.ahead) }
+    ensures failed { IfSome result (λ number.
+        IsFailedClause (clauses_of kernel.now) entries.new.steps number) }
 {
     let fallen = step.lit.opposite();
     let other = links.watched(partner_of(node));
     match met_by(entries, other, step.level) {
         Met::ForGood => {
-            links.put(node, other)?;
-            return Ok(None);
+            links.put(node, other);
+            return None;
         },
         Met::Here => if !is_due(longs.len(), node) {
             links.pass(node);
-            return Ok(None);
+            return None;
         },
         Met::No => {},
     }
     let number = longs[node as usize / 2];
     let watch = best_beside(entries, kernel.clause(number), fallen, step.level, other);
     if !watch.is_false {
-        links.put(node, watch.lit)?;
-        return Ok(None);
+        links.put(node, watch.lit);
+        return None;
     }
     if make_true(entries, other, number) {
-        links.put(node, watch.lit)?;
-        return Ok(None);
+        links.put(node, watch.lit);
+        return None;
     }
-    Ok(Some(number))
+    Some(number)
 }
 
 /// Visits the nodes that watch the literal that a step made false. The number of a clause that is false, if one is met.
@@ -217,7 +217,7 @@ pub fn visit_step(
     place: usize,
     entries: &mut Entries,
     links: &mut Links,
-) -> Result<Option<u32>, OutOfMemory>
+) -> Option<u32>
     requires within { place < length entries.old.steps }
     requires sound { AreSound kernel.now entries.old }
     requires watched { AreWatched kernel.now longs.now place entries.old links.old }
@@ -225,25 +225,22 @@ pub fn visit_step(
     ensures grown { AreGrown entries.old entries.new }
     ensures sound { AreSound kernel.now entries.new }
     ensures here { AreWatched kernel.now longs.now place entries.new links.new }
-    ensures next { IfOk result (λ found. IfNone found
-        (AreWatched kernel.now longs.now (place + 1) entries.new links.new)) }
+    ensures next { IfNone result
+        (AreWatched kernel.now longs.now (place + 1) entries.new links.new) }
     ensures none { links.new.ahead ≡ [] }
-    ensures failed { IfOk result (λ found. IfSome found (λ number.
-        IsFailedClause (clauses_of kernel.now) entries.new.steps number)) }
+    ensures failed { IfSome result (λ number.
+        IsFailedClause (clauses_of kernel.now) entries.new.steps number) }
 {
     let step = entries.step(place);
     let fallen = step.lit.opposite();
     links.begin(fallen);
     while let Some(node) = links.current() {
-        match visit(kernel, longs, place, &step, node, entries, links) {
-            Ok(None) => {},
-            ended => {
-                links.end();
-                return ended;
-            },
+        if let Some(number) = visit(kernel, longs, place, &step, node, entries, links) {
+            links.end();
+            return Some(number);
         }
     }
-    Ok(None)
+    None
 }
 
 /// Visits what stands beside the literal that a step made false, in clauses of two: it is true from then on. The number of a clause

@@ -12,11 +12,6 @@ returns-in-Some-clause-searching c =
     searching_propagated c.args.sizes.now c.args.kernel.now c.args.trail.now c.propagate.new.self c.args.cursors.now c.requires.searching
     c.propagate.ensures.propagated c.propagate.ensures.fits c.propagate.ensures.settled
 
-pub returns-in_err-id-clause-searching : goal.returns-in_err-id-clause-searching
-returns-in_err-id-clause-searching c =
-    searching_propagated c.args.sizes.now c.args.kernel.now c.args.trail.now c.propagate.new.self c.args.cursors.now c.requires.searching
-    c.propagate.ensures.propagated c.propagate.ensures.fits c.propagate.ensures.settled
-
 pub slice_copy_out-next_choice : goal.slice_copy_out-next_choice
 slice_copy_out-next_choice c =
     let searching : IsSearching c.args.sizes.now c.args.kernel.now c.propagate.new.self c.args.cursors.now =
@@ -45,7 +40,7 @@ returns-in-Some-choice-clause-searching c =
     c.propagate.ensures.propagated c.propagate.ensures.fits c.propagate.ensures.settled)
     c.decide.ensures.steps (rw c.in-Some-choice.is at c.next_choice-choice.ensures.some) c.decide.ensures.decided
     (c.decide.ensures.fits c.args.kernel.now c.propagate.ensures.fits)
-    (c.decide.ensures.settled c.args.kernel.now (rw c.in-None.is at c.in_ok-id.ensures.closed) c.propagate.ensures.settled) c.decide.ensures.cursors
+    (c.decide.ensures.settled c.args.kernel.now c.in-None.ensures.closed c.propagate.ensures.settled) c.decide.ensures.cursors
 
 pub returns-in-None-choice-clause-searching : goal.returns-in-None-choice-clause-searching
 returns-in-None-choice-clause-searching c =

@@ -8,16 +8,12 @@ pub returns-in-Some-clause-trail : goal.returns-in-Some-clause-trail
 returns-in-Some-clause-trail c =
     trail_propagated c.args.kernel.now c.args.trail.now c.propagate.new.self c.requires c.propagate.ensures.propagated c.propagate.ensures.fits c.propagate.ensures.settled
 
-pub returns-in_err-id-clause-trail : goal.returns-in_err-id-clause-trail
-returns-in_err-id-clause-trail c =
-    trail_propagated c.args.kernel.now c.args.trail.now c.propagate.new.self c.requires c.propagate.ensures.propagated c.propagate.ensures.fits c.propagate.ensures.settled
-
 pub returns-in-Some-choose-clause-trail : goal.returns-in-Some-choose-clause-trail
 returns-in-Some-choose-clause-trail c =
     trail_decided c.args.kernel.now c.propagate.new.self c.decide.new.self c.in-Some-choose.lit
     (trail_propagated c.args.kernel.now c.args.trail.now c.propagate.new.self c.requires c.propagate.ensures.propagated c.propagate.ensures.fits c.propagate.ensures.settled)
     c.level_count-before.ensures.steps c.decide.ensures.decided (c.decide.ensures.fits c.args.kernel.now c.propagate.ensures.fits)
-    (c.decide.ensures.settled c.args.kernel.now (rw c.in-None.is at c.in_ok-id.ensures.closed) c.propagate.ensures.settled)
+    (c.decide.ensures.settled c.args.kernel.now c.in-None.ensures.closed c.propagate.ensures.settled)
 
 pub returns-in-Some-choose-clause-round : goal.returns-in-Some-choose-clause-round
 returns-in-Some-choose-clause-round c =

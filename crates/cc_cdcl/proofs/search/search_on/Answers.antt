@@ -9,7 +9,7 @@ pub descend-requires-in-None-clause-searching : goal.descend-requires-in-None-cl
 descend-requires-in-None-clause-searching c = c.begin_listing.ensures c.args.sizes.now c.args.kernel.now c.descend_by_probe.ensures.trail
 
 pub returns-in-Some-clause-failed : goal.returns-in-Some-clause-failed
-returns-in-Some-clause-failed c = rw c.in-Some.is at c.in_ok-id.ensures.failed
+returns-in-Some-clause-failed c = c.in-Some.ensures.failed
 
 pub descend-requires-clause-searching : goal.descend-requires-clause-searching
 descend-requires-clause-searching c = c.requires.phase.searching (sym c.is_on.ensures ∙ c.if-not-is_on.true)

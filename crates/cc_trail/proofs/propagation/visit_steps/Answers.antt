@@ -1,16 +1,7 @@
-use Rattle.std.proofs.Common.{ℕ, ◌+◌, Option, subst, ◌∙◌, List, ap, arith, length, length-append}
-use Rattle.std.specs.Prelude.{IfNone, IfSome}
-use Rattle.cc_trail.specs.Visits.{AreWatched}
+use Rattle.std.proofs.Common.{◌+◌, ◌∙◌, List, ap, arith, length, length-append}
 use Rattle.cc_trail.proofs.Growing.{grown_then, watched_grown, followed_grown}
-use Rattle.cc_kernel.specs.Kernels.{clauses_of}
-use Rattle.cc_trail.specs.Trails.{IsFailedClause}
 use Rattle.cc_trail.specs.declared.entries.Step.{Step}
 use Rattle.cc_trail.proofs.propagation.visit_steps.Goals as goal
-
-pub returns-in_err-number-clause-followed : goal.returns-in_err-number-clause-followed
-returns-in_err-number-clause-followed c =
-    followed_grown c.args.pairs.now c.loop-visited.visited c.loop-visited.entries c.visit_step.new.entries c.visit_step.ensures.grown (c.loop-visited.invariant.2).within
-    (c.loop-visited.invariant.4)
 
 pub visit_pairs-requires-clause-followed : goal.visit_pairs-requires-clause-followed
 visit_pairs-requires-clause-followed c =
@@ -23,14 +14,10 @@ loop-visited-preserved c = (
   grown_then c.args.entries.now c.loop-visited.entries c.visit_pairs.new.entries (c.loop-visited.invariant.1)
       (grown_then c.loop-visited.entries c.visit_step.new.entries c.visit_pairs.new.entries c.visit_step.ensures.grown c.visit_pairs.ensures.grown),
   watched_grown c.args.kernel.now c.args.longs.now (c.loop-visited.visited + 1) c.visit_step.new.entries c.visit_pairs.new.entries c.visit_step.new.links c.visit_pairs.ensures.grown
-      (subst (λ (found : Option ℕ). IfNone found (AreWatched c.args.kernel.now c.args.longs.now (c.loop-visited.visited + 1) c.visit_step.new.entries c.visit_step.new.links))
-      c.in_default.is c.in_ok-number.ensures.next),
+      c.in_default.ensures.next,
   c.visit_step.ensures.none,
   c.in_default-visit_pairs.ensures.next,
 )
-
-pub returns-in_err-number-clause-grown : goal.returns-in_err-number-clause-grown
-returns-in_err-number-clause-grown c = grown_then c.args.entries.now c.loop-visited.entries c.visit_step.new.entries c.loop-visited.invariant.1 c.visit_step.ensures.grown
 
 pub visit_pairs-requires-clause-within : goal.visit_pairs-requires-clause-within
 visit_pairs-requires-clause-within c =
@@ -48,8 +35,7 @@ returns-in-Some c = record {
       (c.loop-visited.invariant.2).within (c.loop-visited.invariant.4);
   none = c.visit_step.ensures.none;
   all = tt;
-  failed = subst (λ (found : Option ℕ). IfSome found (λ number. IsFailedClause (clauses_of c.args.kernel.now) c.visit_step.new.entries.steps number))
-      c.in-Some.is c.in_ok-number.ensures.failed;
+  failed = c.in-Some.ensures.failed;
 }
 
 pub returns-in-Some-visit_pairs : goal.returns-in-Some-visit_pairs

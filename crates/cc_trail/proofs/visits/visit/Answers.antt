@@ -3,7 +3,7 @@ use Rattle.std.specs.Prelude.{Contains}
 use Rattle.std.proofs.lemmas.List.Elements.{All-contains}
 use Rattle.cc_defs.specs.Clauses.{Literal, IsLiteralOver}
 use Rattle.cc_trail.specs.Links.{LinksView, watched_at}
-use Rattle.cc_trail.specs.Visits.{IsFalseAt, IsVisiting}
+use Rattle.cc_trail.specs.Visits.{IsFalseAt}
 use Rattle.cc_trail.proofs.Attaching.{all_over}
 use Rattle.cc_trail.proofs.Growing.{grown_at, grown_none}
 use Rattle.cc_trail.proofs.Choosing.{not_true, not_false, best_open, best_false, value_true, value_false}
@@ -46,15 +46,6 @@ put-requires-then-not-watch-clause-over c =
     (All-contains (λ (l : Literal). IsLiteralOver c.args.kernel.now.variables l) c.clause.result.now c.best_beside-watch.result.lit
     (all_over c.args.kernel.now.variables c.clause.result.now c.clause.ensures.over) c.best_beside-watch.ensures.member)
 
-pub returns-in_err-put-2-clause-visiting : goal.returns-in_err-put-2-clause-visiting
-returns-in_err-put-2-clause-visiting c =
-    let best = best_false c.args.entries.now.steps c.clause.result.now c.watched-other.result c.best_beside-watch.result.lit c.best_beside-watch.result.level
-    c.best_beside-watch.result.is_false (not_false c.best_beside-watch.result.is_false c.if-not-watch.false) c.best_beside-watch.ensures.best in
-    subst (λ (v : LinksView). IsVisiting c.args.kernel.now c.args.longs.now c.args.place c.args.step.now c.make_true.new.entries v) (sym c.in_err-put-2.ensures.kept)
-    (visiting_then c.args.kernel.now c.args.longs.now c.args.place c.args.step.now c.args.entries.now c.args.links.now c.requires.visiting c.args.node c.requires.first
-    c.watched-other.result (c.watched-other.ensures.watched ∙ ap (λ (n : ℕ). watched_at c.args.links.now.watched n) c.partner_of.ensures) c.clause.result.now c.clause.ensures.clause
-    c.best_beside-watch.result.level (best.1) c.make_true.new.entries c.make_true.ensures.grown (c.make_true.ensures.sound c.args.kernel.now))
-
 pub put-requires-clause-within : goal.put-requires-clause-within
 put-requires-clause-within c = low c.args.kernel.now c.args.longs.now c.args.place c.args.step.now c.args.entries.now c.args.links.now c.requires.visiting c.args.node c.requires.first
 
@@ -77,18 +68,6 @@ put-requires-then-make_true-clause-over c =
 pub bounds-longs-node : goal.bounds-longs-node
 bounds-longs-node c = half_low c.args.kernel.now c.args.longs.now c.args.place c.args.step.now c.args.entries.now c.args.links.now c.requires.visiting c.args.node c.requires.first
 
-pub returns-in_err-put-clause-grown : goal.returns-in_err-put-clause-grown
-returns-in_err-put-clause-grown c = grown_none c.args.entries.now
-
-pub returns-in_err-put-in-ForGood-clause-grown : goal.returns-in_err-put-in-ForGood-clause-grown
-returns-in_err-put-in-ForGood-clause-grown c = grown_none c.args.entries.now
-
-pub returns-in_err-put-clause-visiting : goal.returns-in_err-put-clause-visiting
-returns-in_err-put-clause-visiting c = subst (λ (v : LinksView). IsVisiting c.args.kernel.now c.args.longs.now c.args.place c.args.step.now c.args.entries.now v) (sym c.in_err-put.ensures.kept) c.requires.visiting
-
-pub returns-in_err-put-in-ForGood-clause-visiting : goal.returns-in_err-put-in-ForGood-clause-visiting
-returns-in_err-put-in-ForGood-clause-visiting c = subst (λ (v : LinksView). IsVisiting c.args.kernel.now c.args.longs.now c.args.place c.args.step.now c.args.entries.now v) (sym c.in_err-put-in-ForGood.ensures.kept) c.requires.visiting
-
 pub put-requires-then-make_true-clause-first : goal.put-requires-then-make_true-clause-first
 put-requires-then-make_true-clause-first c = c.requires.first
 
@@ -100,9 +79,9 @@ returns-in-ForGood c = record {
   visiting =
       gone_then c.args.kernel.now c.args.longs.now c.args.place c.args.step.now c.args.entries.now c.args.links.now c.requires.visiting c.args.node c.requires.first c.requires.once
       c.watched-other.result (c.watched-other.ensures.watched ∙ ap (λ (n : ℕ). watched_at c.args.links.now.watched n) c.partner_of.ensures) c.watched-other.result c.put.new.self
-      c.in_ok-put-in-ForGood.ensures.put refl (c.in-ForGood.ensures.good refl);
+      c.put.ensures refl (c.in-ForGood.ensures.good refl);
   grown = grown_none c.args.entries.now;
-  fewer = ap (λ (v : LinksView). v.ahead) c.in_ok-put-in-ForGood.ensures.put;
+  fewer = ap (λ (v : LinksView). v.ahead) c.put.ensures;
   failed = tt;
 }
 
@@ -122,11 +101,11 @@ returns-then-not-watch c = record {
   visiting =
       open_then c.args.kernel.now c.args.longs.now c.args.place c.args.step.now c.args.entries.now c.args.links.now c.requires.visiting c.args.node c.requires.first c.requires.once
       c.watched-other.result (c.watched-other.ensures.watched ∙ ap (λ (n : ℕ). watched_at c.args.links.now.watched n) c.partner_of.ensures) c.best_beside-watch.result.lit
-      c.put-then-not-watch.new.self c.in_ok-put.ensures.put c.clause.result.now c.clause.ensures.clause c.best_beside-watch.ensures.member c.best_beside-watch.ensures.apart
+      c.put-then-not-watch.new.self c.put-then-not-watch.ensures c.clause.result.now c.clause.ensures.clause c.best_beside-watch.ensures.member c.best_beside-watch.ensures.apart
       (best_open c.args.entries.now.steps c.clause.result.now c.watched-other.result c.best_beside-watch.result.lit c.best_beside-watch.result.level
       c.best_beside-watch.result.is_false (not_true c.best_beside-watch.result.is_false c.if-not-watch.true) c.best_beside-watch.ensures.best);
   grown = grown_none c.args.entries.now;
-  fewer = ap (λ (v : LinksView). v.ahead) c.in_ok-put.ensures.put;
+  fewer = ap (λ (v : LinksView). v.ahead) c.put-then-not-watch.ensures;
   failed = tt;
 }
 
@@ -141,7 +120,7 @@ returns-then-make_true c = record {
       c.best_beside-watch.result.level (best.1) c.make_true.new.entries c.make_true.ensures.grown (c.make_true.ensures.sound c.args.kernel.now))
       c.args.node c.requires.first c.requires.once c.watched-other.result
       (c.watched-other.ensures.watched ∙ ap (λ (n : ℕ). watched_at c.args.links.now.watched n) c.partner_of.ensures) c.best_beside-watch.result.lit
-      c.put-then-make_true.new.self c.in_ok-put-2.ensures.put c.clause.result.now c.clause.ensures.clause c.best_beside-watch.ensures.member c.best_beside-watch.ensures.apart
+      c.put-then-make_true.new.self c.put-then-make_true.ensures c.clause.result.now c.clause.ensures.clause c.best_beside-watch.ensures.member c.best_beside-watch.ensures.apart
       c.best_beside-watch.result.level
       (grown_at c.args.entries.now c.make_true.new.entries c.make_true.ensures.grown c.best_beside-watch.result.lit c.best_beside-watch.result.level (best.0))
       (others_then c.args.kernel.now c.args.longs.now c.args.place c.args.step.now c.args.entries.now c.args.links.now c.requires.visiting c.args.node c.requires.first
@@ -149,7 +128,7 @@ returns-then-make_true c = record {
       c.best_beside-watch.result.level (best.1) c.make_true.new.entries c.make_true.ensures.grown (c.make_true.ensures.sound c.args.kernel.now))
       (value_true c.make_true.new.entries.steps c.make_true.new.entries.level_count c.watched-other.result c.make_true.result c.if-make_true.true c.make_true.ensures.value));
   grown = c.make_true.ensures.grown;
-  fewer = ap (λ (v : LinksView). v.ahead) c.in_ok-put-2.ensures.put;
+  fewer = ap (λ (v : LinksView). v.ahead) c.put-then-make_true.ensures;
   failed = tt;
 }
 

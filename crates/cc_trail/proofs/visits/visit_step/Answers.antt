@@ -18,14 +18,14 @@ loop-node-init c = (
   grown_none c.args.entries.now,
 )
 
-pub returns-in_default-visit-clause-here : goal.returns-in_default-visit-clause-here
-returns-in_default-visit-clause-here c = put_watched c.args.kernel.now c.args.longs.now c.args.place c.visit.new.entries c.visit.new.links c.end.new.self c.end.ensures c.visit.ensures.visiting.watched
+pub returns-in-Some-visit-clause-here : goal.returns-in-Some-visit-clause-here
+returns-in-Some-visit-clause-here c = put_watched c.args.kernel.now c.args.longs.now c.args.place c.visit.new.entries c.visit.new.links c.end.new.self c.end.ensures c.visit.ensures.visiting.watched
 
-pub returns-in_default-visit-clause-grown : goal.returns-in_default-visit-clause-grown
-returns-in_default-visit-clause-grown c = grown_then c.args.entries.now c.loop-node.entries c.visit.new.entries c.loop-node.invariant.1 c.visit.ensures.grown
+pub returns-in-Some-visit-clause-grown : goal.returns-in-Some-visit-clause-grown
+returns-in-Some-visit-clause-grown c = grown_then c.args.entries.now c.loop-node.entries c.visit.new.entries c.loop-node.invariant.1 c.visit.ensures.grown
 
-pub returns-in_default-visit-clause-sound : goal.returns-in_default-visit-clause-sound
-returns-in_default-visit-clause-sound c = c.visit.ensures.visiting.sound
+pub returns-in-Some-visit-clause-sound : goal.returns-in-Some-visit-clause-sound
+returns-in-Some-visit-clause-sound c = c.visit.ensures.visiting.sound
 
 pub returns-clause-next : goal.returns-clause-next
 returns-clause-next c = visit_ends c.args.kernel.now c.args.longs.now c.args.place c.step-step.result c.loop-node.entries c.loop-node.links c.loop-node.invariant.0 c.in_default.ensures.none

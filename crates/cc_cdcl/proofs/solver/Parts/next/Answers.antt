@@ -26,40 +26,40 @@ returns-then-is_some-clause-step c = (
   inl (kernel_is c.self.inside c.args.self.now c.self.view_is c.self.invariant),
 )
 
-pub search_on-requires-clause-sizes : goal.search_on-requires-clause-sizes
-search_on-requires-clause-sizes c = sizes_within c.self.inside c.args.self.now c.self.view_is c.self.invariant c.deref.result.now c.deref.ensures.value
+pub search_on-failed-requires-clause-sizes : goal.search_on-failed-requires-clause-sizes
+search_on-failed-requires-clause-sizes c = sizes_within c.self.inside c.args.self.now c.self.view_is c.self.invariant c.deref.result.now c.deref.ensures.value
 
-pub search_on-requires-clause-phase : goal.search_on-requires-clause-phase
-search_on-requires-clause-phase c =
+pub search_on-failed-requires-clause-phase : goal.search_on-failed-requires-clause-phase
+search_on-failed-requires-clause-phase c =
     begun c.self.inside c.args.self.now c.self.view_is c.self.invariant c.requires.ready c.begin.new.probe.phase c.begin.new.trail c.in_ok-begin.ensures
     c.deref.result.now c.deref_mut.result.now c.deref.ensures.value c.deref_mut.ensures.value
 
 pub write_row-requires-clause-sizes : goal.write_row-requires-clause-sizes
 write_row-requires-clause-sizes c =
     let within = sizes_within c.self.inside c.args.self.now c.self.view_is c.self.invariant c.deref-in-None.result.now c.deref-in-None.ensures.value in
-    let same = c.search_on.ensures.phase.of_kernel.fits.variables in omega arith
+    let same = c.search_on-failed.ensures.phase.of_kernel.fits.variables in omega arith
 
 pub invariant_of-self-in-None : goal.invariant_of-self-in-None
 invariant_of-self-in-None c =
-    let searching : IsSearching c.self.inside.sizes.items c.self.inside.kernel c.search_on.new.trail c.search_on.new.cursors =
-    subst (λ (ns : List ℕ). IsSearching ns c.self.inside.kernel c.search_on.new.trail c.search_on.new.cursors) c.deref.ensures.value (rw c.in-None.is at c.in_ok-failed.ensures.searching) in
-    let there = row_there c.self.inside.sizes.items c.self.inside.kernel c.search_on.new.trail _ c.self.invariant.section searching
-    (rw c.in-None.is at c.in_ok-failed.ensures.full) (rw c.in-None.is at c.in_ok-failed.ensures.closed) in
+    let searching : IsSearching c.self.inside.sizes.items c.self.inside.kernel c.search_on-failed.new.trail c.search_on-failed.new.cursors =
+    subst (λ (ns : List ℕ). IsSearching ns c.self.inside.kernel c.search_on-failed.new.trail c.search_on-failed.new.cursors) c.deref.ensures.value c.in-None.ensures.searching in
+    let there = row_there c.self.inside.sizes.items c.self.inside.kernel c.search_on-failed.new.trail _ c.self.invariant.section searching
+    c.in-None.ensures.full c.in-None.ensures.closed in
     let written = row_written c.self.inside c.args.self.now c.self.view_is c.self.invariant c.deref-in-None.result.now c.deref-in-None.ensures.value
-    c.search_on.new.trail c.write_row.new.row c.write_row.ensures in
+    c.search_on-failed.new.trail c.write_row.new.row c.write_row.ensures in
     record {
       section = c.self.invariant.section;
       room = row_room c.self.inside c.args.self.now c.self.view_is c.self.invariant c.deref-in-None.result.now c.deref-in-None.ensures.value
-          c.search_on.new.trail c.write_row.new.row c.write_row.ensures;
+          c.search_on-failed.new.trail c.write_row.new.row c.write_row.ensures;
       stands = (
         record {
           derived = (running c.self.inside c.args.self.now c.self.view_is c.self.invariant c.requires.ready).derived;
-          in_phase = went_on c.self.inside c.args.self.now c.self.view_is c.self.invariant c.requires.ready c.deref.result.now c.deref.ensures.value c.search_on.new.probe.phase
-              c.search_on.new.trail c.search_on.new.cursors c.search_on.ensures.phase;
+          in_phase = went_on c.self.inside c.args.self.now c.self.view_is c.self.invariant c.requires.ready c.deref.result.now c.deref.ensures.value c.search_on-failed.new.probe.phase
+              c.search_on-failed.new.trail c.search_on-failed.new.cursors c.search_on-failed.ensures.phase;
         },
         record {
           is_row = subst (λ (row : List ℕ). IsRow c.self.inside.sizes.items row) (sym written) there.0;
-          has = subst (λ (row : List ℕ). HasRow c.self.inside.sizes.items (assignment_of (values_of c.search_on.new.trail.steps)) row) (sym written) there.1;
+          has = subst (λ (row : List ℕ). HasRow c.self.inside.sizes.items (assignment_of (values_of c.search_on-failed.new.trail.steps)) row) (sym written) there.1;
         },
       );
     }
@@ -93,8 +93,8 @@ invariant_of-self-then-self-budget c = record {
   room = c.self.invariant.room;
   stands = record {
     derived = (running c.self.inside c.args.self.now c.self.view_is c.self.invariant c.requires.ready).derived;
-    in_phase = went_on c.self.inside c.args.self.now c.self.view_is c.self.invariant c.requires.ready c.deref.result.now c.deref.ensures.value c.search_on.new.probe.phase
-        c.search_on.new.trail c.search_on.new.cursors c.search_on.ensures.phase;
+    in_phase = went_on c.self.inside c.args.self.now c.self.view_is c.self.invariant c.requires.ready c.deref.result.now c.deref.ensures.value c.search_on-failed.new.probe.phase
+        c.search_on-failed.new.trail c.search_on-failed.new.cursors c.search_on-failed.ensures.phase;
   };
 }
 
@@ -107,9 +107,9 @@ returns-then-self-budget-clause-step c = (
       (empty_not_there c.self.inside.kernel.entries 1 (ap (λ o. is_some {T = ℕ} o) (sym c.refuted.ensures) ∙ sym c.is_some.ensures ∙ c.if-is_some.false)),
   (let levels = c.level_count.ensures.level_count in
       let some = c.if-level_count-eq0.false in
-      stuck c.self.inside.kernel c.args.self.now.kernel c.search_on.new.trail c.in-Some.id
-      (kernel_is c.self.inside c.args.self.now c.self.view_is c.self.invariant) c.search_on.ensures.phase.of_kernel c.level_count.ensures.steps (omega arith)
-      (rw c.in-Some.is at c.in_ok-failed.ensures.failed)),
+      stuck c.self.inside.kernel c.args.self.now.kernel c.search_on-failed.new.trail c.in-Some.id
+      (kernel_is c.self.inside c.args.self.now c.self.view_is c.self.invariant) c.search_on-failed.ensures.phase.of_kernel c.level_count.ensures.steps (omega arith)
+      c.in-Some.ensures.failed),
 )
 
 pub returns-then-self-budget-clause-enough : goal.returns-then-self-budget-clause-enough
@@ -154,20 +154,20 @@ invariant_of-self-in-Some c =
     let learns = c.in_ok-learn-in-Some.ensures.learned in
     let count : derived_count c.learn.new.kernel.entries ≡ derived_count c.self.inside.kernel.entries + 1 =
     ap derived_count learns.adds.entries ∙ count_derived c.self.inside.kernel.entries learns.clause in
-    let learned : IsInPhase c.search_on.new.probe.phase c.self.inside.sizes.items c.learn.new.kernel c.learn.new.trail (with_items c.self.inside.cursors c.search_on.new.cursors).items =
-    phase_back c.search_on.new.probe.phase c.self.inside.sizes.items c.self.inside.kernel c.learn.new.kernel c.search_on.new.trail c.learn.new.trail
-    (with_items c.self.inside.cursors c.search_on.new.cursors).items
-    (went_on c.self.inside c.args.self.now c.self.view_is c.self.invariant c.requires.ready c.deref.result.now c.deref.ensures.value c.search_on.new.probe.phase
-    c.search_on.new.trail c.search_on.new.cursors c.search_on.ensures.phase) c.level_count.ensures.steps c.in_ok-learn-in-Some.ensures.back in
-    let noted : IsInPhase c.learn.new.probe.phase c.self.inside.sizes.items c.learn.new.kernel c.learn.new.trail (with_items c.self.inside.cursors c.search_on.new.cursors).items =
-    subst (λ (phase : Phase). IsInPhase phase c.self.inside.sizes.items c.learn.new.kernel c.learn.new.trail (with_items c.self.inside.cursors c.search_on.new.cursors).items)
+    let learned : IsInPhase c.search_on-failed.new.probe.phase c.self.inside.sizes.items c.learn.new.kernel c.learn.new.trail (with_items c.self.inside.cursors c.search_on-failed.new.cursors).items =
+    phase_back c.search_on-failed.new.probe.phase c.self.inside.sizes.items c.self.inside.kernel c.learn.new.kernel c.search_on-failed.new.trail c.learn.new.trail
+    (with_items c.self.inside.cursors c.search_on-failed.new.cursors).items
+    (went_on c.self.inside c.args.self.now c.self.view_is c.self.invariant c.requires.ready c.deref.result.now c.deref.ensures.value c.search_on-failed.new.probe.phase
+    c.search_on-failed.new.trail c.search_on-failed.new.cursors c.search_on-failed.ensures.phase) c.level_count.ensures.steps c.in_ok-learn-in-Some.ensures.back in
+    let noted : IsInPhase c.learn.new.probe.phase c.self.inside.sizes.items c.learn.new.kernel c.learn.new.trail (with_items c.self.inside.cursors c.search_on-failed.new.cursors).items =
+    subst (λ (phase : Phase). IsInPhase phase c.self.inside.sizes.items c.learn.new.kernel c.learn.new.trail (with_items c.self.inside.cursors c.search_on-failed.new.cursors).items)
     (sym c.learn.ensures.phase) learned in
     record {
       section = section_learned c.self.inside.sizes.items c.self.inside.kernel c.learn.new.kernel c.self.invariant.section learns;
       room = c.self.invariant.room;
       stands = record {
         derived = ap (λ (n : ℕ). n + 1) before.derived ∙ sym count;
-        in_phase = counted_on c.self.inside c.args.self.now c.self.view_is c.self.invariant c.requires.ready c.search_on.new.cursors c.learn.new.kernel learns.adds.variables
+        in_phase = counted_on c.self.inside c.args.self.now c.self.view_is c.self.invariant c.requires.ready c.search_on-failed.new.cursors c.learn.new.kernel learns.adds.variables
             c.count_line.new.probe.phase c.count_line.new.trail c.count_line.new.cursors
             (c.count_line.ensures c.self.inside.sizes.items c.learn.new.kernel
             (subst (λ (cs : List Cursor). IsInPhase c.learn.new.probe.phase c.self.inside.sizes.items c.learn.new.kernel c.learn.new.trail cs)
@@ -179,15 +179,15 @@ pub returns-in-None-clause-step : goal.returns-in-None-clause-step
 returns-in-None-clause-step c =
     let same = kernel_is c.self.inside c.args.self.now c.self.view_is c.self.invariant in
     let sizes = sizes_is c.self.inside c.args.self.now c.self.view_is c.self.invariant in
-    let searching : IsSearching c.self.inside.sizes.items c.self.inside.kernel c.search_on.new.trail c.search_on.new.cursors =
-    subst (λ (ns : List ℕ). IsSearching ns c.self.inside.kernel c.search_on.new.trail c.search_on.new.cursors) c.deref.ensures.value (rw c.in-None.is at c.in_ok-failed.ensures.searching) in
-    let least = least_there c.self.inside.sizes.items c.self.inside.kernel c.search_on.new.trail _ c.self.invariant.section searching
-    (rw c.in-None.is at c.in_ok-failed.ensures.full) (rw c.in-None.is at c.in_ok-failed.ensures.closed) c.least_row_is_found.ensures in (
-      row_of c.self.inside.sizes.items (assignment_of (values_of c.search_on.new.trail.steps)),
-      subst (λ (ns : List ℕ). IsLeastRowOf ns (clauses_of c.args.self.now.kernel) (row_of c.self.inside.sizes.items (assignment_of (values_of c.search_on.new.trail.steps)))) sizes
-          (subst (λ (k : KernelView). IsLeastRowOf c.self.inside.sizes.items (clauses_of k) (row_of c.self.inside.sizes.items (assignment_of (values_of c.search_on.new.trail.steps)))) same least),
+    let searching : IsSearching c.self.inside.sizes.items c.self.inside.kernel c.search_on-failed.new.trail c.search_on-failed.new.cursors =
+    subst (λ (ns : List ℕ). IsSearching ns c.self.inside.kernel c.search_on-failed.new.trail c.search_on-failed.new.cursors) c.deref.ensures.value c.in-None.ensures.searching in
+    let least = least_there c.self.inside.sizes.items c.self.inside.kernel c.search_on-failed.new.trail _ c.self.invariant.section searching
+    c.in-None.ensures.full c.in-None.ensures.closed c.least_row_is_found.ensures in (
+      row_of c.self.inside.sizes.items (assignment_of (values_of c.search_on-failed.new.trail.steps)),
+      subst (λ (ns : List ℕ). IsLeastRowOf ns (clauses_of c.args.self.now.kernel) (row_of c.self.inside.sizes.items (assignment_of (values_of c.search_on-failed.new.trail.steps)))) sizes
+          (subst (λ (k : KernelView). IsLeastRowOf c.self.inside.sizes.items (clauses_of k) (row_of c.self.inside.sizes.items (assignment_of (values_of c.search_on-failed.new.trail.steps)))) same least),
       view_found c.self.inside c.args.self.now c.self.view_is c.self.invariant c.deref-in-None.result.now c.deref-in-None.ensures.value
-          c.search_on.new.trail c.write_row.new.row c.write_row.ensures,
+          c.search_on-failed.new.trail c.write_row.new.row c.write_row.ensures,
     )
 
 pub returns-in_ok-learn-in-Some-clause-step : goal.returns-in_ok-learn-in-Some-clause-step
@@ -214,28 +214,28 @@ pub refute-requires-clause-few : goal.refute-requires-clause-few
 refute-requires-clause-few c = subst (λ (k : KernelView). length k.entries < 4000000000) (sym (kernel_is c.self.inside c.args.self.now c.self.view_is c.self.invariant)) c.requires.few
 
 pub learn-requires-clause-settled : goal.learn-requires-clause-settled
-learn-requires-clause-settled c = c.search_on.ensures.phase.of_kernel.settled
+learn-requires-clause-settled c = c.search_on-failed.ensures.phase.of_kernel.settled
 
 pub refute-requires-clause-settled : goal.refute-requires-clause-settled
-refute-requires-clause-settled c = c.search_on.ensures.phase.of_kernel.settled
+refute-requires-clause-settled c = c.search_on-failed.ensures.phase.of_kernel.settled
 
 pub learn-requires-clause-fits : goal.learn-requires-clause-fits
-learn-requires-clause-fits c = c.search_on.ensures.phase.of_kernel.fits
+learn-requires-clause-fits c = c.search_on-failed.ensures.phase.of_kernel.fits
 
 pub refute-requires-clause-fits : goal.refute-requires-clause-fits
-refute-requires-clause-fits c = c.search_on.ensures.phase.of_kernel.fits
+refute-requires-clause-fits c = c.search_on-failed.ensures.phase.of_kernel.fits
 
 pub learn-requires-clause-opened : goal.learn-requires-clause-opened
-learn-requires-clause-opened c = c.search_on.ensures.phase.of_kernel.opened
+learn-requires-clause-opened c = c.search_on-failed.ensures.phase.of_kernel.opened
 
 pub learn-requires-clause-all : goal.learn-requires-clause-all
-learn-requires-clause-all c = c.search_on.ensures.phase.of_kernel.all
+learn-requires-clause-all c = c.search_on-failed.ensures.phase.of_kernel.all
 
 pub learn-requires-clause-failed : goal.learn-requires-clause-failed
-learn-requires-clause-failed c = rw c.in-Some.is at c.in_ok-failed.ensures.failed
+learn-requires-clause-failed c = c.in-Some.ensures.failed
 
 pub refute-requires-clause-failed : goal.refute-requires-clause-failed
-refute-requires-clause-failed c = rw c.in-Some.is at c.in_ok-failed.ensures.failed
+refute-requires-clause-failed c = c.in-Some.ensures.failed
 
 pub learn-requires-clause-level : goal.learn-requires-clause-level
 learn-requires-clause-level c = let levels = c.level_count.ensures.level_count in let some = c.if-level_count-eq0.false in omega arith
@@ -261,11 +261,11 @@ begin-requires c = (running c.self.inside c.args.self.now c.self.view_is c.self.
 pub count_line-requires : goal.count_line-requires
 count_line-requires c =
     ap length c.deref_mut-in-Some.ensures.value
-    ∙ (went_on c.self.inside c.args.self.now c.self.view_is c.self.invariant c.requires.ready c.deref.result.now c.deref.ensures.value c.search_on.new.probe.phase c.search_on.new.trail c.search_on.new.cursors c.search_on.ensures.phase).room
+    ∙ (went_on c.self.inside c.args.self.now c.self.view_is c.self.invariant c.requires.ready c.deref.result.now c.deref.ensures.value c.search_on-failed.new.probe.phase c.search_on-failed.new.trail c.search_on-failed.new.cursors c.search_on-failed.ensures.phase).room
     ∙ ap (λ (n : ℕ). n + 1) (sym c.in_ok-learn-in-Some.ensures.back.variables)
 
-pub search_on-requires-clause-positions : goal.search_on-requires-clause-positions
-search_on-requires-clause-positions c = subst (λ (ns : List ℕ). HasPositions ns c.self.inside.kernel) (sym c.deref.ensures.value) c.self.invariant.section.positions
+pub search_on-failed-requires-clause-positions : goal.search_on-failed-requires-clause-positions
+search_on-failed-requires-clause-positions c = subst (λ (ns : List ℕ). HasPositions ns c.self.inside.kernel) (sym c.deref.ensures.value) c.self.invariant.section.positions
 
 pub overflow_add-self : goal.overflow_add-self
 overflow_add-self c =
@@ -277,22 +277,10 @@ overflow_add-self c =
     omega arith
 
 pub refute-requires-clause-opened : goal.refute-requires-clause-opened
-refute-requires-clause-opened c = c.search_on.ensures.phase.of_kernel.opened
+refute-requires-clause-opened c = c.search_on-failed.ensures.phase.of_kernel.opened
 
 pub returns-then-is_some-clause-enough : goal.returns-then-is_some-clause-enough
 returns-then-is_some-clause-enough c = λ opens open_are most. refuted_not_spent
-
-pub invariant_of-self-in_err-failed : goal.invariant_of-self-in_err-failed
-invariant_of-self-in_err-failed c = record { section = c.self.invariant.section; room = c.self.invariant.room; stands = tt }
-
-pub returns-in_err-failed-clause-broken : goal.returns-in_err-failed-clause-broken
-returns-in_err-failed-clause-broken c =
-    let same = kernel_is c.self.inside c.args.self.now c.self.view_is c.self.invariant in
-    on_err _ c.from_residual-in_err-failed.result (
-      record { standing = refl; sizes = sizes_is c.self.inside c.args.self.now c.self.view_is c.self.invariant },
-      ap (λ (k : KernelView). k.variables) same,
-      inl (ap (λ (k : KernelView). k.entries) same),
-    )
 
 pub returns-in_err-refute-in-Some-clause-broken : goal.returns-in_err-refute-in-Some-clause-broken
 returns-in_err-refute-in-Some-clause-broken c =

@@ -1,22 +1,44 @@
-use Rattle.std.proofs.Common.{◌≡◌, ◌∙◌, ◌<◌, ℕ, List, ◌∷◌, length, drop, sym, subst, ap, arith}
+use Rattle.std.proofs.Common.{◌≡◌, ◌-◌, ◌<◌, ◌≤◌, ℕ, suc, Option, Some, None, length, drop, subst, arith}
+use Rattle.std.specs.Prelude.{IfSome, SomeIff}
 use Rattle.cc_defs.specs.Clauses.{IsIn}
-use Rattle.cc_trail.specs.Links.{LinksView}
-use Rattle.cc_trail.specs.LinkParts.{back_from}
-use Rattle.cc_trail.specs.Lists.{list_at}
-use Rattle.cc_trail.proofs.Linked.{begins_at, not_ahead}
+use Rattle.cc_trail.specs.Links.{LinksView, BeginsWith}
+use Rattle.cc_trail.specs.LinkParts.{link_at, AreLinks, view_of}
+use Rattle.cc_trail.specs.declared.links.Links.TheInside.{Inside}
+use Rattle.cc_trail.proofs.Linked.{first_of, ahead_once, before_low}
 use Rattle.cc_trail.proofs.links.Links.current.Goals as goal
 
-ahead_is : (c : goal.After-number) → c.args.self.now.ahead ≡ c.number.result ∷ back_from c.in-Some.place (list_at c.self.inside.lists c.self.inside.walked)
-ahead_is c =
-    sym (ap (λ (v : LinksView). v.ahead) c.self.view_is)
-    ∙ begins_at c.self.inside.ahead c.in-Some.place c.number.result (list_at c.self.inside.lists c.self.inside.walked) (omega (arith, c.in-Some.ensures)) c.number.ensures
+first : (inside : Inside) (old : LinksView) (r : Option ℕ) (link : ℕ) → view_of inside ≡ old →
+    AreLinks inside.variables inside.heads.items inside.nodes.next inside.nodes.watched inside.walked inside.before →
+    link ≡ link_at inside.heads.items inside.nodes.next inside.walked inside.before → SomeIff r (1 ≤ link) (link - 1) →
+    IfSome r (λ node. BeginsWith old.ahead node × (node < length old.watched) × (IsIn (drop 1 old.ahead) node → ⊥))
+first inside old None link is links link_is e = tt
+first inside old (Some node) link is links link_is e =
+    let node_is : link_at inside.heads.items inside.nodes.next inside.walked inside.before ≡ suc node = omega (arith, e) in
+    let there = first_of inside.variables inside.heads.items inside.nodes.next inside.nodes.watched inside.walked inside.before links node node_is in
+    subst (λ (v : LinksView). BeginsWith v.ahead node × (node < length v.watched) × (IsIn (drop 1 v.ahead) node → ⊥)) is
+    (there.0, there.1, ahead_once inside.variables inside.heads.items inside.nodes.next inside.nodes.watched inside.walked inside.before links node (there.0))
 
-pub returns-in-Some-clause-some : goal.returns-in-Some-clause-some
-returns-in-Some-clause-some c = (back_from c.in-Some.place (list_at c.self.inside.lists c.self.inside.walked), ahead_is c)
+some_of : (r : Option ℕ) (P Q S : ℕ → Type 0) → IfSome r (λ node. P node × Q node × S node) → IfSome r P × IfSome r Q × IfSome r S
+some_of None P Q S e = (tt, tt, tt)
+some_of (Some node) P Q S e = e
 
-pub returns-in-Some-clause-once : goal.returns-in-Some-clause-once
-returns-in-Some-clause-once c there =
-    let numbers = list_at c.self.inside.lists c.self.inside.walked in
-    let within : c.in-Some.place < length numbers = omega (arith, c.in-Some.ensures, c.self.invariant.ahead_low) in
-    not_ahead c.self.inside.lists c.self.inside.watched.items c.self.invariant.listed c.self.inside.walked c.in-Some.place within
-    (subst (λ (n : ℕ). IsIn (back_from c.in-Some.place numbers) n) c.number.ensures (subst (λ (ns : List ℕ). IsIn (drop 1 ns) c.number.result) (ahead_is c) there))
+both : (c : goal.After-checked_sub) → IfSome c.checked_sub.result (λ node. BeginsWith c.args.self.now.ahead node) ×
+    IfSome c.checked_sub.result (λ node. node < length c.args.self.now.watched) × IfSome c.checked_sub.result (λ node. IsIn (drop 1 c.args.self.now.ahead) node → ⊥)
+both c =
+    some_of c.checked_sub.result (λ (node : ℕ). BeginsWith c.args.self.now.ahead node) (λ (node : ℕ). node < length c.args.self.now.watched)
+    (λ (node : ℕ). IsIn (drop 1 c.args.self.now.ahead) node → ⊥)
+    (first c.self.inside c.args.self.now c.checked_sub.result c.link_of.result c.self.view_is c.self.invariant
+    (rw (← c.deref.ensures.value) c.link_of.ensures) c.checked_sub.ensures)
+
+pub link_of-requires-clause-before : goal.link_of-requires-clause-before
+link_of-requires-clause-before c =
+    before_low c.self.inside.variables c.self.inside.heads.items c.self.inside.nodes.next c.self.inside.nodes.watched c.self.inside.walked c.self.inside.before c.self.invariant
+
+pub returns-clause-some : goal.returns-clause-some
+returns-clause-some c = (both c).0
+
+pub returns-clause-within : goal.returns-clause-within
+returns-clause-within c = (both c).1
+
+pub returns-clause-once : goal.returns-clause-once
+returns-clause-once c = (both c).2

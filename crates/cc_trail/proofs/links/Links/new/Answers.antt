@@ -1,5 +1,5 @@
-use Rattle.cc_trail.proofs.Linked.{no_links}
+use Rattle.cc_trail.proofs.Linked.{links_made}
 use Rattle.cc_trail.proofs.links.Links.new.Goals as goal
 
 pub invariant_of-result : goal.invariant_of-result
-invariant_of-result c = no_links c.args.variables c.in_ok-lists.lists c.new-2.result.items c.requires c.in_ok-lists.ensures c.new-2.ensures.items
+invariant_of-result c = rw c.new.ensures (rw (c.in_ok-heads.ensures.items_if_clones_equal (λ y e. e)) (links_made c.args.variables c.requires))

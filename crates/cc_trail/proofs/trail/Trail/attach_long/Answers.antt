@@ -4,15 +4,12 @@ use Rattle.cc_trail.specs.Trails.{TrailView, IsLong}
 use Rattle.cc_trail.specs.TrailParts.{view_of}
 use Rattle.cc_defs.specs.Clauses.{IsLiteralOver}
 use Rattle.cc_trail.proofs.TrailViews.{over_links, parts_kept, parts_long}
-use Rattle.cc_trail.proofs.Linked.{pushed}
 use Rattle.cc_trail.proofs.trail.Trail.attach_long.Goals as goal
 
 pub returns-clause-attached : goal.returns-clause-attached
 returns-clause-attached c =
     let longs : c.push.new.self.items ≡ c.self.inside.longs.items ++ c.args.id ∷ [] =
-    pushed c.push.result c.reserve.new.self.items c.push.new.self.items c.args.id c.push.ensures.items
-    (c.push.ensures.succeeds (let room = c.in_ok-reserve.ensures.ok in omega arith))
-    ∙ ap (λ (ns : List ℕ). ns ++ c.args.id ∷ []) c.reserve.ensures.items in
+    c.in_ok-push.ensures.items ∙ ap (λ (ns : List ℕ). ns ++ c.args.id ∷ []) c.reserve.ensures.items in
     let watched : c.add_two.new.self.watched ≡ c.self.inside.links.watched ++ c.args.pair.first ∷ c.args.pair.second ∷ [] =
     ap (λ (v : LinksView). v.watched) c.in_ok-add_two.ensures.added in
     let long : IsLong (view_of c.self.inside) (record (view_of c.self.inside) {
@@ -55,13 +52,12 @@ entries_before-self-inside-requires-clause-two c = (subst (λ (v : TrailView). I
 
 pub invariant_of-self-2 : goal.invariant_of-self-2
 invariant_of-self-2 c =
-    let longs : c.push.new.self.items ≡ c.self.inside.longs.items ++ c.args.id ∷ [] =
-    pushed c.push.result c.reserve.new.self.items c.push.new.self.items c.args.id c.push.ensures.items
-    (c.push.ensures.succeeds (let room = c.in_ok-reserve.ensures.ok in omega arith))
-    ∙ ap (λ (ns : List ℕ). ns ++ c.args.id ∷ []) c.reserve.ensures.items in
     let there = parts_long c.self.inside c.self.invariant c.args.id c.entries_before-self-inside.result c.push.new.self.items c.args.pair.first c.args.pair.second c.add_two.new.self c.entries_before-self-inside.ensures.fewer
-    c.in_ok-add_two.ensures.added longs in
+    c.in_ok-add_two.ensures.added (c.in_ok-push.ensures.items ∙ ap (λ (ns : List ℕ). ns ++ c.args.id ∷ []) c.reserve.ensures.items) in
     record { trail_is = there.0; variables = there.1; pairs_variables = c.self.invariant.pairs_variables; ahead = there.2 }
+
+pub invariant_of-self-in_err-push : goal.invariant_of-self-in_err-push
+invariant_of-self-in_err-push c = absurd (let room = c.in_ok-reserve.ensures.ok in let long = c.reserve.ensures.len in let full = c.in_err-push.ensures.full in omega arith)
 
 pub add_two-requires-clause-a_over : goal.add_two-requires-clause-a_over
 add_two-requires-clause-a_over c = over_links c.self.inside c.args.self.now c.self.view_is c.self.invariant c.args.pair.first c.requires.first

@@ -1,10 +1,6 @@
-use Rattle.std.proofs.Common.{◌≡◌, ◌∙◌, ℕ, List, length, sym, subst, ◌*◌, ap, length-append, arith, refl}
-use Rattle.std.specs.Prelude.{IfNone}
-use Rattle.std.proofs.lemmas.Result.{IfOk-weaker}
-use Rattle.cc_defs.specs.Assignments.{IsClosed}
+use Rattle.std.proofs.Common.{◌∙◌, ℕ, List, length, sym, subst, ◌*◌, ap, length-append, arith, refl}
 use Rattle.cc_kernel.specs.Kernels.{clauses_of}
 use Rattle.cc_defs.specs.Clauses.{IsIn}
-use Rattle.cc_trail.specs.Steps.{values_of}
 use Rattle.cc_trail.specs.Visits.{AreWatched}
 use Rattle.cc_trail.proofs.Growing.{watched_grown, grown_then}
 use Rattle.cc_trail.proofs.Walking.{met_grown}
@@ -49,14 +45,12 @@ returns-clause-fits c =
 
 pub returns-clause-closed : goal.returns-clause-closed
 returns-clause-closed c =
-    IfOk-weaker c.visit_steps.result (λ found. IfNone found (c.visit_steps.new.visited ≡ length c.visit_steps.new.entries.steps))
-    (λ found. IfNone found (IsClosed (values_of c.visit_steps.new.entries.steps) (clauses_of c.args.kernel.now)))
-    (λ found. all_closed c.self.inside c.args.self.now c.self.view_is c.self.invariant c.args.kernel.now c.requires.fits found c.visit_steps.new.visited
+    all_closed c.self.inside c.args.self.now c.self.view_is c.self.invariant c.args.kernel.now c.requires.fits c.visit_steps.result c.visit_steps.new.visited
     c.visit_steps.new.entries c.visit_steps.new.links c.requires.all c.visit_steps.ensures.sound
     (subst (λ (ns : List ℕ). AreWatched c.args.kernel.now ns c.visit_steps.new.visited c.visit_steps.new.entries c.visit_steps.new.links) c.deref-2.ensures.value c.visit_steps.ensures.watched)
     c.visit_steps.ensures.followed
     (λ number here. met_grown (clauses_of c.args.kernel.now) c.make_shorts.new.entries c.visit_steps.new.entries number c.visit_steps.ensures.grown
-    (c.in_default.ensures.met number (subst (λ (ns : List ℕ). IsIn ns number) (sym c.deref.ensures.value) here))))
+    (c.in_default.ensures.met number (subst (λ (ns : List ℕ). IsIn ns number) (sym c.deref.ensures.value) here)))
     c.visit_steps.ensures.all
 
 pub invariant_of-self : goal.invariant_of-self
