@@ -9,17 +9,17 @@ use Rattle.cc_kernel.specs.Kernels.{KernelView, Entry, clauses_of}
 use Rattle.cc_trail.specs.declared.entries.Step.{Step}
 use Rattle.cc_trail.specs.declared.trail.Trail.TheInside.{Inside}
 use Rattle.cc_trail.specs.Links.{LinksView, watched_at}
-use Rattle.cc_trail.specs.Pairs.{PairsView, IsPaired, ArePaired, AreFollowed, other_in}
+use Rattle.cc_trail.specs.Pairs.{PairsView, IsPaired, AreFollowed, other_in}
 use Rattle.cc_trail.specs.Steps.{EntriesView, AreApart, step_of, sign_of, values_of}
 use Rattle.cc_trail.specs.Watches.{IsFalseBy, IsWatched, IsShort, IsMetForGood, partner}
 use Rattle.cc_trail.specs.Trails.{TrailView, Fits, IsCovered, IsSettled, number_of}
 use Rattle.cc_trail.specs.TrailParts.{view_of, AreParts}
-use Rattle.cc_trail.specs.Visits.{AreSound, AreGrown, AreWatched, IsMet}
+use Rattle.cc_trail.specs.Visits.{AreSound, AreGrown, AreWatched, IsMet, IsPropagating}
 use Rattle.cc_trail.proofs.StepLists.{in_take, levels_most, step_found, found_step}
 use Rattle.cc_trail.proofs.Attaching.{half_first, partner_first, partner_second}
 use Rattle.cc_trail.proofs.Adding.{Spares, not_failed, not_unit}
 use Rattle.cc_trail.proofs.Covered.{all_spare}
-use Rattle.cc_trail.proofs.Growing.{same_or_opposite, grown_in, grown_then, followed_grown}
+use Rattle.cc_trail.proofs.Growing.{same_or_opposite, grown_in, grown_then, followed_grown, watched_grown}
 use Rattle.cc_trail.proofs.Values.{good_more}
 use Rattle.cc_trail.proofs.Visiting.{numbered_same}
 
@@ -46,15 +46,14 @@ place_in [] n none = elim none [ ]
 place_in (m ∷ ns) n (inl same) = (0, omega arith, same)
 place_in (m ∷ ns) n (inr here) = let (k, within, at) = place_in ns n here in (suc k, omega (arith, within), at)
 
-module _ (kernel : KernelView) (shorts longs : List ℕ) (visited : ℕ) (entries : EntriesView) (links : LinksView) (pairs : PairsView) (sound : AreSound kernel entries)
-    (watched : AreWatched kernel longs visited entries links) (paired : ArePaired (clauses_of kernel) pairs) (followed : AreFollowed pairs (take visited entries.steps) entries.steps)
-    (all : visited ≡ length entries.steps)
+module _ (kernel : KernelView) (shorts longs : List ℕ) (visited : ℕ) (entries : EntriesView) (links : LinksView) (pairs : PairsView)
+    (it : IsPropagating kernel longs pairs visited entries links) (all : visited ≡ length entries.steps)
     (met : (number : ℕ) → IsIn shorts number → IsMet (clauses_of kernel) entries.steps number)
     (each : (number : ℕ) → 0 < number → number ≤ length (clauses_of kernel) →
     IsIn shorts number ⊎ (IsIn longs number ⊎ (IsPaired pairs number ⊎ IsCovered (clauses_of kernel) number))) where
   watched_all : (node : ℕ) → node < length links.watched → IsWatched entries.steps entries.steps links.watched node
   watched_all node low =
-      subst (λ (steps : List Step). IsWatched steps entries.steps links.watched node) (take_all visited entries.steps (omega arith)) (watched.watches node low)
+      subst (λ (steps : List Step). IsWatched steps entries.steps links.watched node) (take_all visited entries.steps (omega arith)) (it.watched.watches node low)
 
   spares_short : (number : ℕ) (clause : List Literal) → IsNumbered (clauses_of kernel) number clause → IsIn shorts number → Spares (values_of entries.steps) clause
   spares_short number clause numbered here =
@@ -62,36 +61,36 @@ module _ (kernel : KernelView) (shorts longs : List ℕ) (visited : ℕ) (entrie
       inl (
         literal,
         subst (λ (c : List Literal). Contains c literal) (numbered_same (clauses_of kernel) number other clause other_numbered numbered) member,
-        true_by entries.steps sound.are_steps.apart literal step among is,
+        true_by entries.steps it.sound.are_steps.apart literal step among is,
       )
 
   spares_node : (node : ℕ) → node < length links.watched → partner node < length links.watched → partner (partner node) ≡ node → (clause : List Literal) →
       IsNumbered (clauses_of kernel) (number_of longs node) clause → Spares (values_of entries.steps) clause
   spares_node node low partner_low twice clause numbered =
-      let watching = watched.watching node low in
+      let watching = it.watched.watching node low in
       let same = numbered_same (clauses_of kernel) (number_of longs node) watching.clause clause watching.numbered numbered in
       let one = subst (λ (c : List Literal). Contains c (watched_at links.watched node)) same watching.here in
       let two = subst (λ (c : List Literal). Contains c (watched_at links.watched (partner node))) same watching.there in
       elim (value_tells entries.steps (watched_at links.watched node) (step_of entries.steps (watched_at links.watched node).variable) refl) [
         | inr valued ↦ elim valued [
-          | inl (step, among, is) ↦ inl (watched_at links.watched node, one, true_by entries.steps sound.are_steps.apart (watched_at links.watched node) step among is)
+          | inl (step, among, is) ↦ inl (watched_at links.watched node, one, true_by entries.steps it.sound.are_steps.apart (watched_at links.watched node) step among is)
           | inr (step, among, is) ↦
               let true_is = watched_all node low step among is in
-              inl (watched_at links.watched (partner node), two, true_by entries.steps sound.are_steps.apart (watched_at links.watched (partner node)) true_is.0 true_is.1 true_is.2)
+              inl (watched_at links.watched (partner node), two, true_by entries.steps it.sound.are_steps.apart (watched_at links.watched (partner node)) true_is.0 true_is.1 true_is.2)
         ]
         | inl one_open ↦ elim (value_tells entries.steps (watched_at links.watched (partner node)) (step_of entries.steps (watched_at links.watched (partner node)).variable) refl) [
           | inl two_open ↦ elim watching.apart [
             | inl apart ↦ inr (watched_at links.watched node, watched_at links.watched (partner node), apart, one, two, one_open, two_open)
-            | inr is ↦ inl (watched_at links.watched node, one, true_by entries.steps sound.are_steps.apart (watched_at links.watched node) is.0 is.1 is.2)
+            | inr is ↦ inl (watched_at links.watched node, one, true_by entries.steps it.sound.are_steps.apart (watched_at links.watched node) is.0 is.1 is.2)
           ]
           | inr valued ↦ elim valued [
-            | inl (step, among, is) ↦ inl (watched_at links.watched (partner node), two, true_by entries.steps sound.are_steps.apart (watched_at links.watched (partner node)) step among is)
+            | inl (step, among, is) ↦ inl (watched_at links.watched (partner node), two, true_by entries.steps it.sound.are_steps.apart (watched_at links.watched (partner node)) step among is)
             | inr (step, among, is) ↦
                 let true_is = watched_all (partner node) partner_low step among is in
                 inl (
                   watched_at links.watched node,
                   one,
-                  true_by entries.steps sound.are_steps.apart (watched_at links.watched node) true_is.0 true_is.1
+                  true_by entries.steps it.sound.are_steps.apart (watched_at links.watched node) true_is.0 true_is.1
                       (true_is.2 ∙ ap (λ (k : ℕ). watched_at links.watched k) twice),
                 )
           ]
@@ -101,33 +100,33 @@ module _ (kernel : KernelView) (shorts longs : List ℕ) (visited : ℕ) (entrie
   spares_long : (number : ℕ) (clause : List Literal) → IsNumbered (clauses_of kernel) number clause → IsIn longs number → Spares (values_of entries.steps) clause
   spares_long number clause numbered here =
       let (k, within, at) = place_in longs number here in
-      let nodes = watched.nodes in
+      let nodes = it.watched.nodes in
       spares_node (2 * k) (omega arith) (rw (partner_first k) (omega arith)) (ap partner (partner_first k) ∙ partner_second k) clause
       (subst (λ (n : ℕ). IsNumbered (clauses_of kernel) n clause) (sym at ∙ ap (λ (j : ℕ). get_or longs j 0) (sym (half_first k))) numbered)
 
   followed_all : AreFollowed pairs entries.steps entries.steps
-  followed_all = subst (λ (steps : List Step). AreFollowed pairs steps entries.steps) (take_all visited entries.steps (omega arith)) followed
+  followed_all = subst (λ (steps : List Step). AreFollowed pairs steps entries.steps) (take_all visited entries.steps (omega arith)) it.followed
 
   spares_pair : (number : ℕ) (clause : List Literal) → IsNumbered (clauses_of kernel) number clause → IsPaired pairs number → Spares (values_of entries.steps) clause
   spares_pair number clause numbered (a, b, apart, ab, ba) =
-      let (other, other_numbered, a_in, b_in, only) = paired a (other_in b number) ab in
+      let (other, other_numbered, a_in, b_in, only) = it.paired a (other_in b number) ab in
       let same = numbered_same (clauses_of kernel) number other clause other_numbered numbered in
       let one = subst (λ (c : List Literal). Contains c a) same a_in in
       let two = subst (λ (c : List Literal). Contains c b) same b_in in
       elim (value_tells entries.steps a (step_of entries.steps a.variable) refl) [
         | inr valued ↦ elim valued [
-          | inl (step, among, is) ↦ inl (a, one, true_by entries.steps sound.are_steps.apart a step among is)
+          | inl (step, among, is) ↦ inl (a, one, true_by entries.steps it.sound.are_steps.apart a step among is)
           | inr (step, among, is) ↦
               let true_is = followed_all a (other_in b number) ab step among is in
-              inl (b, two, true_by entries.steps sound.are_steps.apart b true_is.0 true_is.1 true_is.2)
+              inl (b, two, true_by entries.steps it.sound.are_steps.apart b true_is.0 true_is.1 true_is.2)
         ]
         | inl a_open ↦ elim (value_tells entries.steps b (step_of entries.steps b.variable) refl) [
           | inl b_open ↦ inr (a, b, apart, one, two, a_open, b_open)
           | inr valued ↦ elim valued [
-            | inl (step, among, is) ↦ inl (b, two, true_by entries.steps sound.are_steps.apart b step among is)
+            | inl (step, among, is) ↦ inl (b, two, true_by entries.steps it.sound.are_steps.apart b step among is)
             | inr (step, among, is) ↦
                 let true_is = followed_all b (other_in a number) ba step among is in
-                inl (a, one, true_by entries.steps sound.are_steps.apart a true_is.0 true_is.1 true_is.2)
+                inl (a, one, true_by entries.steps it.sound.are_steps.apart a true_is.0 true_is.1 true_is.2)
           ]
         ]
       ]
@@ -177,7 +176,7 @@ module _ (inside : Inside) (old : TrailView) (is : view_of inside ≡ old) (part
     settled = subst (λ (v : TrailView). IsSettled v kernel) (sym is) settled;
   }
 
-  pub watched_here : AreWatched kernel inside.longs.items inside.visited inside.entries inside.links
+  watched_here : AreWatched kernel inside.longs.items inside.visited inside.entries inside.links
   watched_here = record {
     variables = parts.variables ∙ fits_here.variables;
     within = parts.trail_is.visited;
@@ -186,9 +185,16 @@ module _ (inside : Inside) (old : TrailView) (is : view_of inside ≡ old) (part
     watches = fits_here.clauses.watches;
   }
 
-  pub followed_still : (entries : EntriesView) → AreGrown inside.entries entries → AreFollowed inside.pairs (take inside.visited entries.steps) entries.steps
-  followed_still entries grown =
-      followed_grown inside.pairs inside.visited inside.entries entries grown parts.trail_is.visited fits_here.clauses.followed
+  pub propagating_here : (entries : EntriesView) → AreGrown inside.entries entries → AreSound kernel entries →
+      IsPropagating kernel inside.longs.items inside.pairs inside.visited entries inside.links
+  propagating_here entries grown sound = record {
+    variables = parts.pairs_variables ∙ sym grown.variables;
+    sound = sound;
+    watched = watched_grown kernel inside.longs.items inside.visited inside.entries entries inside.links grown watched_here;
+    paired = fits_here.clauses.pairs;
+    followed = followed_grown inside.pairs inside.visited inside.entries entries grown parts.trail_is.visited fits_here.clauses.followed;
+    none = parts.ahead;
+  }
 
   good_here : (entries : EntriesView) → AreGrown inside.entries entries → (number : ℕ) → IsIn (take inside.met inside.shorts.items) number →
       IsMetForGood (clauses_of kernel) entries.steps number
@@ -227,8 +233,7 @@ module _ (inside : Inside) (old : TrailView) (is : view_of inside ≡ old) (part
       let count : length (clauses_of kernel) ≡ length kernel.entries = length-map kernel.entries (λ (entry : Entry). entry.clause) in
       fits_here.clauses.each number some (omega arith)
 
-  pub fits_then : (visited met : ℕ) (entries : EntriesView) (links : LinksView) → AreSound kernel entries → AreWatched kernel inside.longs.items visited entries links →
-      AreFollowed inside.pairs (take visited entries.steps) entries.steps →
+  pub fits_then : (visited met : ℕ) (entries : EntriesView) (links : LinksView) → IsPropagating kernel inside.longs.items inside.pairs visited entries links →
       (met ≤ length inside.shorts.items) × ((number : ℕ) → IsIn (take met inside.shorts.items) number → IsMetForGood (clauses_of kernel) entries.steps number) →
       Fits (record {
         variables = entries.variables;
@@ -242,26 +247,26 @@ module _ (inside : Inside) (old : TrailView) (is : view_of inside ≡ old) (part
         pairs = inside.pairs;
         visited = visited;
       }) kernel
-  fits_then visited met entries links sound watched followed good = record {
-    variables = sound.variables;
+  fits_then visited met entries links it good = record {
+    variables = it.sound.variables;
     clauses = record {
       attached = fits_here.clauses.attached;
-      reasons = sound.reasons;
+      reasons = it.sound.reasons;
       shorts = fits_here.clauses.shorts;
       met_few = good.0;
       met = good.1;
-      longs = watched.watching;
+      longs = it.watched.watching;
       pairs = fits_here.clauses.pairs;
       each = fits_here.clauses.each;
-      watches = watched.watches;
-      followed = followed;
+      watches = it.watched.watches;
+      followed = it.followed;
     };
   }
 
-  pub all_closed : (found : Option ℕ) (visited : ℕ) (entries : EntriesView) (links : LinksView) → old.attached ≡ length kernel.entries → AreSound kernel entries →
-      AreWatched kernel inside.longs.items visited entries links → AreFollowed inside.pairs (take visited entries.steps) entries.steps →
+  pub all_closed : (found : Option ℕ) (visited : ℕ) (entries : EntriesView) (links : LinksView) → old.attached ≡ length kernel.entries →
+      IsPropagating kernel inside.longs.items inside.pairs visited entries links →
       ((number : ℕ) → IsIn inside.shorts.items number → IsMet (clauses_of kernel) entries.steps number) →
       IfNone found (visited ≡ length entries.steps) → IfNone found (IsClosed (values_of entries.steps) (clauses_of kernel))
-  all_closed None visited entries links attached sound watched followed met all =
-      closed_then kernel inside.shorts.items inside.longs.items visited entries links inside.pairs sound watched fits_here.clauses.pairs followed all met (each_here attached)
-  all_closed (Some number) visited entries links attached sound watched followed met all = tt
+  all_closed None visited entries links attached it met all =
+      closed_then kernel inside.shorts.items inside.longs.items visited entries links inside.pairs it all met (each_here attached)
+  all_closed (Some number) visited entries links attached it met all = tt

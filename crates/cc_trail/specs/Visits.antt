@@ -1,10 +1,11 @@
 -- What a visit of watches keeps, and what it looks for.
-use Rattle.std.specs.Prelude.{◌≡◌, ℕ, ◌*◌, ◌<◌, ◌≤◌, ◌⊎◌, suc, Bool, true, false, List, ◌++◌, length, take, slice_get, All, Contains, Some, None}
+use Rattle.std.specs.Prelude.{◌≡◌, ℕ, ◌*◌, ◌<◌, ◌≤◌, ◌⊎◌, suc, Bool, true, false, List, [], ◌++◌, length, take, slice_get, All, Contains, Some, None}
 use Rattle.std.specs.List.{AllByRecursion}
 use Rattle.cc_defs.specs.Clauses.{Literal, opposite, IsNumbered, IsIn}
 use Rattle.cc_kernel.specs.Kernels.{KernelView, clauses_of}
 use Rattle.cc_trail.specs.declared.entries.Step.{Step}
 use Rattle.cc_trail.specs.Links.{LinksView, watched_at}
+use Rattle.cc_trail.specs.Pairs.{PairsView, AreFollowed, ArePaired}
 use Rattle.cc_trail.specs.Steps.{EntriesView, AreSteps, step_of}
 use Rattle.cc_trail.specs.Watches.{IsTrueBy, IsFalseBy, IsWatched, Watches, AreReasoned}
 use Rattle.cc_trail.specs.Trails.{IsPropagatedAt, IsSettledOver, number_of}
@@ -61,6 +62,16 @@ pub record AreWatched (kernel : KernelView) (longs : List ℕ) (visited : ℕ) (
   pub nodes : length links.watched ≡ 2 * length longs
   pub watching : (node : ℕ) → node < length links.watched → Watches (clauses_of kernel) entries.steps (number_of longs node) links.watched node
   pub watches : (node : ℕ) → node < length links.watched → IsWatched (take visited entries.steps) entries.steps links.watched node
+
+-- So many steps are visited: the long clauses are watched rightly there, what stands beside a literal that one of them made false is
+-- true, and no walk goes on.
+pub record IsPropagating (kernel : KernelView) (longs : List ℕ) (pairs : PairsView) (visited : ℕ) (entries : EntriesView) (links : LinksView) : Type 0 where
+  pub variables : pairs.variables ≡ entries.variables
+  pub sound : AreSound kernel entries
+  pub watched : AreWatched kernel longs visited entries links
+  pub paired : ArePaired (clauses_of kernel) pairs
+  pub followed : AreFollowed pairs (take visited entries.steps) entries.steps
+  pub none : links.ahead ≡ []
 
 -- The step at a place is being visited: the nodes that are ahead watch the literal that it made false, and the others
 -- are watched rightly where this step is visited too.

@@ -1,11 +1,10 @@
 //! Propagation: clauses of fewer than two literals, and then the steps that have not been visited.
-ghost use Rattle.std.specs.Prelude.{◌≡◌, ℕ, ◌<◌, ◌⊎◌, [], length, take, IfSome, IfNone};
+ghost use Rattle.std.specs.Prelude.{◌≡◌, ℕ, ◌<◌, ◌⊎◌, length, take, IfSome, IfNone};
 ghost use Rattle.cc_kernel.specs.Kernels.{clauses_of};
 ghost use Rattle.cc_defs.specs.Clauses.{IsIn};
 ghost use Rattle.cc_trail.specs.Watches.{IsShort};
 ghost use Rattle.cc_trail.specs.Trails.{IsFailedClause};
-ghost use Rattle.cc_trail.specs.Pairs.{AreFollowed, ArePaired};
-ghost use Rattle.cc_trail.specs.Visits.{AreSound, AreGrown, AreWatched, IsMet};
+ghost use Rattle.cc_trail.specs.Visits.{AreSound, AreGrown, IsPropagating, IsMet};
 
 use crate::entries::Entries;
 use crate::links::Links;
@@ -82,19 +81,11 @@ pub fn visit_steps(
     pairs: &Pairs,
     visited: &mut usize,
 ) -> Option<u32>
-    requires variables { pairs.now.variables ≡ entries.old.variables }
-    requires sound { AreSound kernel.now entries.old }
-    requires watched { AreWatched kernel.now longs.now visited.old entries.old links.old }
-    requires paired { ArePaired (clauses_of kernel.now) pairs.now }
-    requires followed { AreFollowed
-        pairs.now (take visited.old entries.old.steps) entries.old.steps }
-    requires none { links.old.ahead ≡ [] }
+    requires { IsPropagating
+        kernel.now longs.now pairs.now visited.old entries.old links.old }
+    ensures propagating { IsPropagating
+        kernel.now longs.now pairs.now visited.new entries.new links.new }
     ensures grown { AreGrown entries.old entries.new }
-    ensures sound { AreSound kernel.now entries.new }
-    ensures watched { AreWatched kernel.now longs.now visited.new entries.new links.new }
-    ensures followed { AreFollowed
-        pairs.now (take visited.new entries.new.steps) entries.new.steps }
-    ensures none { links.new.ahead ≡ [] }
     ensures all { IfNone result (visited.new ≡ length entries.new.steps) }
     ensures failed { IfSome result (λ number.
         IsFailedClause (clauses_of kernel.now) entries.new.steps number) }

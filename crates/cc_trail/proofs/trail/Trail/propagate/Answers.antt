@@ -1,13 +1,11 @@
 use Rattle.std.proofs.Common.{◌∙◌, ℕ, List, length, sym, subst, ◌*◌, ap, length-append, arith, refl}
 use Rattle.cc_kernel.specs.Kernels.{clauses_of}
 use Rattle.cc_defs.specs.Clauses.{IsIn}
-use Rattle.cc_trail.specs.Visits.{AreWatched}
-use Rattle.cc_trail.proofs.Growing.{watched_grown, grown_then}
+use Rattle.cc_trail.specs.Visits.{IsPropagating}
+use Rattle.cc_trail.proofs.Growing.{grown_then}
 use Rattle.cc_trail.proofs.Walking.{met_grown}
-use Rattle.cc_trail.proofs.Propagated.{watched_here, known_here, followed_still, still_good, good_then, fits_then, all_closed}
-use Rattle.cc_trail.specs.Trails.{TrailView}
+use Rattle.cc_trail.proofs.Propagated.{known_here, propagating_here, still_good, good_then, fits_then, all_closed}
 use Rattle.cc_trail.specs.declared.entries.Step.{Step}
-use Rattle.cc_trail.specs.Pairs.{ArePaired}
 use Rattle.cc_trail.proofs.trail.Trail.propagate.Goals as goal
 
 pub make_shorts-requires-clause-known : goal.make_shorts-requires-clause-known
@@ -17,28 +15,19 @@ make_shorts-requires-clause-known c =
 pub returns-in-Some-clause-fits : goal.returns-in-Some-clause-fits
 returns-in-Some-clause-fits c =
     fits_then c.self.inside c.args.self.now c.self.view_is c.self.invariant c.args.kernel.now c.requires.fits c.self.inside.visited c.self.inside.met c.make_shorts.new.entries
-    c.self.inside.links c.make_shorts.ensures.sound
-    (watched_grown c.args.kernel.now c.self.inside.longs.items c.self.inside.visited c.self.inside.entries c.make_shorts.new.entries c.self.inside.links c.make_shorts.ensures.grown
-    (watched_here c.self.inside c.args.self.now c.self.view_is c.self.invariant c.args.kernel.now c.requires.fits))
-    (followed_still c.self.inside c.args.self.now c.self.view_is c.self.invariant c.args.kernel.now c.requires.fits c.make_shorts.new.entries c.make_shorts.ensures.grown)
+    c.self.inside.links
+    (propagating_here c.self.inside c.args.self.now c.self.view_is c.self.invariant c.args.kernel.now c.requires.fits c.make_shorts.new.entries c.make_shorts.ensures.grown c.make_shorts.ensures.sound)
     (still_good c.self.inside c.args.self.now c.self.view_is c.self.invariant c.args.kernel.now c.requires.fits c.make_shorts.new.entries c.make_shorts.ensures.grown)
 
-pub visit_steps-requires-clause-watched : goal.visit_steps-requires-clause-watched
-visit_steps-requires-clause-watched c =
+pub visit_steps-requires : goal.visit_steps-requires
+visit_steps-requires c =
     rw c.deref-2.ensures.value
-    (watched_grown c.args.kernel.now c.self.inside.longs.items c.self.inside.visited c.self.inside.entries c.make_shorts.new.entries c.self.inside.links c.make_shorts.ensures.grown
-    (watched_here c.self.inside c.args.self.now c.self.view_is c.self.invariant c.args.kernel.now c.requires.fits))
-
-pub visit_steps-requires-clause-followed : goal.visit_steps-requires-clause-followed
-visit_steps-requires-clause-followed c =
-    followed_still c.self.inside c.args.self.now c.self.view_is c.self.invariant c.args.kernel.now c.requires.fits c.make_shorts.new.entries c.make_shorts.ensures.grown
+    (propagating_here c.self.inside c.args.self.now c.self.view_is c.self.invariant c.args.kernel.now c.requires.fits c.make_shorts.new.entries c.make_shorts.ensures.grown c.make_shorts.ensures.sound)
 
 pub returns-clause-fits : goal.returns-clause-fits
 returns-clause-fits c =
     fits_then c.self.inside c.args.self.now c.self.view_is c.self.invariant c.args.kernel.now c.requires.fits c.visit_steps.new.visited c.met_for_good-self-inside.result
-    c.visit_steps.new.entries c.visit_steps.new.links c.visit_steps.ensures.sound
-    (subst (λ (ns : List ℕ). AreWatched c.args.kernel.now ns c.visit_steps.new.visited c.visit_steps.new.entries c.visit_steps.new.links) c.deref-2.ensures.value c.visit_steps.ensures.watched)
-    c.visit_steps.ensures.followed
+    c.visit_steps.new.entries c.visit_steps.new.links (subst (λ (ns : List ℕ). IsPropagating c.args.kernel.now ns c.self.inside.pairs c.visit_steps.new.visited c.visit_steps.new.entries c.visit_steps.new.links) c.deref-2.ensures.value c.visit_steps.ensures.propagating)
     (good_then c.self.inside c.args.self.now c.self.view_is c.self.invariant c.args.kernel.now c.requires.fits c.met_for_good-self-inside.result c.len.result c.make_shorts.new.entries
     c.visit_steps.new.entries c.met_for_good-self-inside.ensures (c.len.ensures ∙ c.self.inside.shorts.ok.0) c.make_shorts.ensures.grown c.visit_steps.ensures.grown c.make_shorts.ensures.sound
     (rw (← c.deref.ensures.value) c.in_default.ensures.met))
@@ -46,9 +35,7 @@ returns-clause-fits c =
 pub returns-clause-closed : goal.returns-clause-closed
 returns-clause-closed c =
     all_closed c.self.inside c.args.self.now c.self.view_is c.self.invariant c.args.kernel.now c.requires.fits c.visit_steps.result c.visit_steps.new.visited
-    c.visit_steps.new.entries c.visit_steps.new.links c.requires.all c.visit_steps.ensures.sound
-    (subst (λ (ns : List ℕ). AreWatched c.args.kernel.now ns c.visit_steps.new.visited c.visit_steps.new.entries c.visit_steps.new.links) c.deref-2.ensures.value c.visit_steps.ensures.watched)
-    c.visit_steps.ensures.followed
+    c.visit_steps.new.entries c.visit_steps.new.links c.requires.all (subst (λ (ns : List ℕ). IsPropagating c.args.kernel.now ns c.self.inside.pairs c.visit_steps.new.visited c.visit_steps.new.entries c.visit_steps.new.links) c.deref-2.ensures.value c.visit_steps.ensures.propagating)
     (λ number here. met_grown (clauses_of c.args.kernel.now) c.make_shorts.new.entries c.visit_steps.new.entries number c.visit_steps.ensures.grown
     (c.in_default.ensures.met number (subst (λ (ns : List ℕ). IsIn ns number) (sym c.deref.ensures.value) here)))
     c.visit_steps.ensures.all
@@ -70,16 +57,16 @@ invariant_of-self c =
 
 pub invariant_of-self-2 : goal.invariant_of-self-2
 invariant_of-self-2 c =
-    let watched = c.visit_steps.ensures.watched in
+    let watched = c.visit_steps.ensures.propagating.watched in
     record {
       trail_is = record {
-        are_steps = c.visit_steps.ensures.sound.are_steps;
+        are_steps = c.visit_steps.ensures.propagating.sound.are_steps;
         visited = watched.within;
         nodes = watched.nodes ∙ ap (λ (ns : List ℕ). 2 * length ns) c.deref-2.ensures.value;
       };
-      variables = watched.variables ∙ sym c.visit_steps.ensures.sound.variables;
+      variables = watched.variables ∙ sym c.visit_steps.ensures.propagating.sound.variables;
       pairs_variables = c.self.invariant.pairs_variables ∙ sym (c.visit_steps.ensures.grown.variables ∙ c.make_shorts.ensures.grown.variables);
-      ahead = c.visit_steps.ensures.none;
+      ahead = c.visit_steps.ensures.propagating.none;
     }
 
 pub returns-clause-propagated : goal.returns-clause-propagated
@@ -87,11 +74,8 @@ returns-clause-propagated c =
     let grown = grown_then c.self.inside.entries c.make_shorts.new.entries c.visit_steps.new.entries c.make_shorts.ensures.grown c.visit_steps.ensures.grown in
     rw (← c.self.view_is) (record { more = grown.more; steps = grown.steps; each = grown.each; variables = grown.variables; level_count = grown.level_count; attached = refl })
 
-pub visit_steps-requires-clause-paired : goal.visit_steps-requires-clause-paired
-visit_steps-requires-clause-paired c = subst (λ (v : TrailView). ArePaired (clauses_of c.args.kernel.now) v.pairs) (sym c.self.view_is) c.requires.fits.clauses.pairs
-
 pub returns-clause-settled : goal.returns-clause-settled
-returns-clause-settled c = c.visit_steps.ensures.sound.settled
+returns-clause-settled c = c.visit_steps.ensures.propagating.sound.settled
 
 pub returns-in-Some-clause-propagated : goal.returns-in-Some-clause-propagated
 returns-in-Some-clause-propagated c =
