@@ -7,6 +7,7 @@ mod Completing
 mod Copying
 mod Definitions
 mod Drafting
+mod Extending
 mod Joining
 mod Keeping
 mod Keys
@@ -33,4 +34,5 @@ mod Spreading
 mod Standing
 mod Stepping
 pub mod Telling
+mod Whole
 mod Written

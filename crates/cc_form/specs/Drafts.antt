@@ -1,12 +1,14 @@
--- Clause lists in the making: drafts, whose limits are looked at in the end, and lists that are within them.
-use Rattle.std.specs.Prelude.{◌≡◌, ℕ, ◌≤◌, ◌++◌, List, Option}
+-- Clause lists in the making: drafts, whose limits are looked at in the end, and lists that are always within them.
+use Rattle.std.specs.Prelude.{◌≡◌, ℕ, ◌≤◌, ◌++◌, ◌↔◌, Bool, List, Option}
 use Rattle.cc_defs.specs.Limits.{most_variables}
 use Rattle.cc_defs.specs.declared.node.Node.{Node}
 use Rattle.cc_defs.specs.declared.refusal.Refusal.{Refusal}
 use Rattle.cc_defs.specs.ClauseForms.{written}
 use Rattle.cc_defs.specs.ClauseLists.{Asserted}
-use Rattle.cc_defs.specs.Clauses.{Literal}
+use Rattle.cc_defs.specs.Clauses.{Literal, is_made_true}
 use Rattle.cc_defs.specs.Sections.{Axioms}
+use Rattle.cc_clauses.specs.RowsOf.{HasRow, IsRowOf, MeetsAll}
+use Rattle.cc_clauses.specs.Tells.{IsOnce}
 use Rattle.cc_form.specs.declared.writer.Writer.{Writer}
 use Rattle.cc_form.specs.Forms.{IsAxioms, form_refusal}
 use Rattle.cc_form.specs.Machine.{made_nodes}
@@ -45,3 +47,18 @@ pub record IsWhole (writer : Writer) : Type 0 where
 -- the first limit that axioms pass
 abbrev pub axioms_refusal : Axioms → Option Refusal
 axioms_refusal axioms = form_refusal (record { variables = axioms.variables; clauses = axioms.clauses })
+
+abbrev pub nodes_behind : Axioms → List Node → Axioms
+nodes_behind axioms term =
+    let more = made_nodes axioms.sizes axioms.variables term
+    in record { sizes = axioms.sizes; variables = more.last; clauses = axioms.clauses ++ more.clauses }
+
+abbrev pub clause_behind : Axioms → List Literal → Axioms
+clause_behind axioms literals = record { sizes = axioms.sizes; variables = axioms.variables; clauses = axioms.clauses ++ written literals }
+
+-- New axioms have the rows of the old ones, each of them once where it was so, and their literal is true in just those of these rows
+-- of which this holds.
+pub record Extends (old new : Axioms) (literal : Literal) (holds : List ℕ → Bool) : Type 0 where
+  pub rows : (row : List ℕ) → IsRowOf new.sizes new.clauses row ↔ IsRowOf old.sizes old.clauses row
+  pub once : (row : List ℕ) → IsOnce old row → IsOnce new row
+  pub literal_is : (row : List ℕ) (a : ℕ → Bool) → HasRow new.sizes a row → MeetsAll a new.clauses → is_made_true a literal ≡ holds row

@@ -8,7 +8,7 @@ ghost use Rattle.cc_defs.specs.Limits.{most_variables};
 ghost use Rattle.cc_defs.specs.Refusals.{IsRefusedBy};
 ghost use Rattle.cc_defs.specs.Terms.{IsTermOver};
 ghost use Rattle.cc_form.specs.Building.{IsBuiltForm, count_refusal};
-ghost use Rattle.cc_form.specs.Drafts.{IsDraft, with_clause, with_nodes};
+ghost use Rattle.cc_form.specs.Drafts.{IsDraft, IsWhole, with_clause, with_nodes};
 ghost use Rattle.cc_form.specs.Machine.{IsPast, made_nodes, moved_nodes};
 ghost use Rattle.cc_form.specs.Parts.{axioms_behind, first_clauses};
 ghost use Rattle.cc_form.specs.Store.{Gives};
@@ -64,6 +64,7 @@ pub(crate) fn emptied<X: Drop, E: Drop>(
     ensures made { result ≡ made }
     ensures kept { OnOk made (writer.new ≡ writer.old) }
     ensures form { OnErr made (IsBuiltForm writer.new) }
+    ensures whole { OnErr made (IsWhole writer.new) }
 {
     if made.is_err() {
         drop(replace(writer, Writer::none(alloc)));
@@ -87,6 +88,14 @@ impl Draft {
                 Err(Fault::OutOfMemory)
             }
         }
+    }
+
+    /// The writer, with what was put behind.
+    pub(crate) fn into_writer(self) -> Writer
+        ensures { result ≡ self }
+    {
+        let Draft { writer, .. } = self;
+        writer
     }
 
     /// The literal of a term, whose constants stand so many positions behind their numbers. Each conjunction, disjunction and

@@ -1,5 +1,5 @@
 //! The clause list of a section.
-ghost use Rattle.std.specs.Prelude.{◌≡◌, [], map, ℕ, ◌+◌, ◌≤◌, ◌<◌, List, Some, None, IfOk, IfErr, IfSome, OnOk, All, Contains, length, slice_get, sum};
+ghost use Rattle.std.specs.Prelude.{◌≡◌, [], map, ℕ, ◌+◌, ◌≤◌, ◌<◌, ◌↔◌, List, Bool, Some, None, IfOk, IfErr, IfSome, OnOk, IsTrue, All, Contains, length, slice_get, sum};
 ghost use Rattle.std.specs.Option.{option_map};
 ghost use Rattle.cc_arena.specs.GroundViews.{plain_ground_condition, plain_ground_query};
 ghost use Rattle.cc_defs.specs.ClauseForms.{atom_variable, positive, true_variable};
@@ -101,6 +101,13 @@ impl Form {
             Contains (positions_from 1 self.now.sizes) clause → Contains self.now.clauses clause }
     {
         self.places.sizes()
+    }
+
+    /// Whether a row has an index for each position, below the number of its values. It takes no memory.
+    pub fn is_row(&self, row: &[u32]) -> bool
+        ensures { IsTrue result ↔ IsRow self.now.sizes row.now }
+    {
+        self.places.is_row(row)
     }
 
     /// The literal that a position has the value of this index. It takes no memory.
@@ -251,7 +258,7 @@ pub(crate) fn add_query(
 }
 
 /// The form of what was built, all of whose clauses are kept.
-fn form_of_whole(writer: Writer) -> Form
+pub(crate) fn form_of_whole(writer: Writer) -> Form
     requires { IsWhole writer }
     ensures { result ≡ record {
       sizes = writer.places;

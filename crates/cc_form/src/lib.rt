@@ -1,6 +1,7 @@
 //! The clause list of a section: completion and query as clauses, each term with a variable of its own.
 #![tactic(auto)]
 
+mod builder;
 mod copies;
 mod defining;
 mod draft;
@@ -16,6 +17,7 @@ mod store;
 mod template;
 mod writer;
 
+pub use builder::Builder;
 pub use draft::Draft;
 pub use form::{Form, clauses};
 pub use template::Template;

@@ -1,9 +1,10 @@
 //! The positions of a horizon, and the variables of their atoms.
-ghost use Rattle.std.specs.Prelude.{◌≡◌, ◌+◌, ◌≤◌, ◌<◌, ◌++◌, [], min, sum, IfOk, IfErr, OnOk};
+ghost use Rattle.std.specs.Prelude.{◌≡◌, ◌+◌, ◌≤◌, ◌<◌, ◌++◌, ◌↔◌, [], length, take, min, sum, IfOk, IfErr, OnOk, IsTrue, Some, slice_get};
 ghost use Rattle.cc_defs.specs.Limits.{most_variables};
 ghost use Rattle.cc_defs.specs.declared.node.Node.TheVariants as nodes;
 ghost use Rattle.cc_defs.specs.ClauseForms.{atom_variable, positive, true_variable};
 ghost use Rattle.cc_defs.specs.Description.{domain_sizes};
+ghost use Rattle.cc_defs.specs.Rows.{IsRow};
 ghost use Rattle.cc_defs.specs.Signatures.{ground_constants};
 ghost use Rattle.cc_defs.specs.Terms.{Fits};
 ghost use Rattle.cc_form.specs.Machine.{IsPast};
@@ -174,4 +175,25 @@ impl Places {
     {
         Lit::positive(self.firsts[position as usize] + value)
     }
+
+    /// Whether a row has an index for each position, below the number of its values.
+    pub(crate) fn is_row(&self, row: &[u32]) -> bool
+        ensures { IsTrue result ↔ IsRow self.now row.now }
+    {
+        is_row(&self.sizes, row)
+    }
+}
+
+fn is_row(sizes: &[u32], row: &[u32]) -> bool
+    ensures { IsTrue result ↔ IsRow sizes.now row.now }
+{
+    if sizes.len() != row.len() {
+        return false;
+    }
+    for position in 0..sizes.len() {
+        if row[position] >= sizes[position] {
+            return false;
+        }
+    }
+    true
 }

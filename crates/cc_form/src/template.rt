@@ -39,6 +39,7 @@ use std::marker::Model;
 /// two steps or more is put together: the variables of a step are those of another, each moved by the same number.
 #[derive(Drop)]
 pub struct Template<'a> {
+    alloc: Global,
     sig: &'a Sig,
     laws: &'a Laws<'a>,
     // Those of a horizon of two, where it passes no limit.
@@ -338,14 +339,18 @@ impl<'a> Template<'a> {
             template ≡ record { signature = sig.now; laws = laws.now }) }
     {
         let steps = steps_within(alloc, sig, laws)?;
-        Ok(Template { sig, laws, steps })
+        Ok(Template {
+            alloc,
+            sig,
+            laws,
+            steps,
+        })
     }
 
     /// The clause list of a section at a horizon, the same as that of its theory: put together where the horizon has two steps
     /// or more. Refuses the first limit that its rules or clauses pass (14, rules, variables, axiom clauses or axiom literals).
     pub fn clauses(
         &self,
-        alloc: Global,
         horizon: u32,
         query: &GroundQuery<'_>,
         with_claim: bool,
@@ -370,10 +375,10 @@ impl<'a> Template<'a> {
     {
         match steps_at(self.sig, self.laws, &self.steps, horizon) {
             Some(steps) => put_together(
-                alloc, self.sig, self.laws, steps, horizon, query, with_claim, after,
+                self.alloc, self.sig, self.laws, steps, horizon, query, with_claim, after,
             ),
             None => made(
-                alloc, self.sig, self.laws, horizon, query, with_claim, after,
+                self.alloc, self.sig, self.laws, horizon, query, with_claim, after,
             ),
         }
     }

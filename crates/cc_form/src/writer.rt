@@ -1,5 +1,5 @@
 //! Clauses over the positions of a horizon: the literals of terms, and clauses of literals.
-ghost use Rattle.std.specs.Prelude.{◌≡◌, ◌+◌, ◌≤◌, ◌<◌, [], List, length, Ok, Err, IfOk, IfErr, OnOk};
+ghost use Rattle.std.specs.Prelude.{◌≡◌, ◌+◌, ◌≤◌, ◌<◌, ◌++◌, ◌⊎◌, [], ◌∷◌, List, length, Ok, Err, IsOk, IfOk, IfErr, OnOk};
 ghost use Rattle.std.specs.List.{AllByRecursion};
 ghost use Rattle.cc_arena.specs.Walks.{arity as arity_of};
 ghost use Rattle.cc_defs.specs.Limits.{most_variables};
@@ -9,6 +9,7 @@ ghost use Rattle.cc_defs.specs.Clauses.{Literal};
 ghost use Rattle.cc_defs.specs.Refusals.{IsRefusedBy};
 ghost use Rattle.cc_defs.specs.Terms.{Fits, IsTermOver};
 ghost use Rattle.cc_form.specs.Building.{IsBuiltForm, count_refusal};
+ghost use Rattle.cc_form.specs.Drafts.{IsWhole};
 ghost use Rattle.cc_form.specs.Machine.{first_of, made_node, made_nodes, moved_node, moved_nodes, plain_made, run as run_of, stepped, IsBuilt, IsPast, IsRan, IsReady};
 ghost use Rattle.cc_form.specs.Places.{position_sizes};
 ghost use Rattle.cc_form.specs.Store.{AreFew, Gives, Holds};
@@ -196,7 +197,8 @@ impl Writer {
 
     /// One of no positions and with no clauses.
     pub(crate) fn none(alloc: Global) -> Writer
-        ensures { IsBuiltForm result }
+        ensures form { IsBuiltForm result }
+        ensures whole { IsWhole result }
     {
         Writer {
             places: Places::none(alloc),
@@ -314,6 +316,23 @@ impl Writer {
             return Err(Fault::Refused(Refusal::past(LimitAt::AxiomLiterals)));
         }
         Ok(())
+    }
+
+    /// What was made, where the clauses and literals are within their limits.
+    pub(crate) fn within<X: Drop>(&self, made: Result<X, Fault>) -> Result<X, Fault>
+        ensures made { IfOk result (λ it. made ≡ Ok it) }
+        ensures kept { (clauses : List (List Literal)) →
+            Holds self.now.store.kept clauses → OnOk result (self.now.store.kept.arena ≡ clauses) }
+        ensures few { (clauses : List (List Literal)) →
+            Holds self.now.store.kept clauses → OnOk result (AreFew clauses) }
+        ensures refused { IfErr result (λ fault. (made ≡ Err fault)
+            ⊎ (IsOk made × ((clauses : List (List Literal)) → Holds self.now.store.kept clauses →
+            IsRefusedBy (count_refusal clauses) fault))) }
+    {
+        match made {
+            Ok(it) => filled(it, self.fits()),
+            Err(fault) => Err(fault),
+        }
     }
 
     /// The positions, the number of the last variable, and the clauses.

@@ -97,7 +97,7 @@ impl<'a> Lists<'a> {
             (refusal_at d q horizon with_claim (option_map (λ key. key.now) after.entry))) }
     {
         match &self.template {
-            Some(template) => template.clauses(alloc, horizon, query, with_claim, after),
+            Some(template) => template.clauses(horizon, query, with_claim, after),
             None => form_at(
                 alloc, self.sig, self.laws, query, after, horizon, with_claim,
             ),

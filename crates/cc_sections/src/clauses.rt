@@ -47,7 +47,7 @@ fn from_template(
     requires key { IfSome after (λ key. IsKeyAt sig.now horizon key.now) }
 {
     let template = Template::new(alloc, sig, laws)?;
-    Ok(template.clauses(alloc, horizon, query, with_claim, after)?)
+    Ok(template.clauses(horizon, query, with_claim, after)?)
 }
 
 /// Whether two clause lists are the same, clause by clause.

@@ -40,7 +40,7 @@ fn agree_at(
     let theory = Theory::at(alloc, sig, laws, horizon)?;
     let form = clauses(alloc, &theory, query, false, None)?;
     let template = Template::new(alloc, sig, laws)?;
-    let other = template.clauses(alloc, horizon, query, false, None)?;
+    let other = template.clauses(horizon, query, false, None)?;
     Ok(is_same(&form, &other))
 }
 
