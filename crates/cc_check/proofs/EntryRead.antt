@@ -1,5 +1,5 @@
 -- Entries at the front of bytes, by what was read there.
-use Rattle.std.proofs.Common.{ℕ, ◌≡◌, ◌≢◌, ◌+◌, ◌*◌, ◌/◌, Bool, cond, eqb, List, ◌∷◌, ◌++◌, Option, length, get_or, flat_map, refl, sym, ap, subst, ◌∙◌, arith, ◌-◌, ◌≤◌, ◌⊎◌, inl, inr, drop, take}
+use Rattle.std.proofs.Common.{ℕ, ◌≡◌, ◌≢◌, ◌+◌, ◌*◌, ◌/◌, eqb, List, ◌∷◌, ◌++◌, Option, length, get_or, flat_map, refl, sym, ap, subst, ◌∙◌, arith, ◌-◌, ◌≤◌, ◌⊎◌, inl, inr, drop, take}
 use Rattle.std.specs.Prelude.{MatchOption}
 use Rattle.std.proofs.lemmas.List.{take_rest}
 use Rattle.std.specs.Borrow.{Bor}

@@ -8,6 +8,7 @@ pub mod Judged
 pub mod Parted
 pub mod SectionsThere
 pub mod NextSections
+pub mod Places
 pub mod Headers
 pub mod SilentLogs
 pub mod Refuted

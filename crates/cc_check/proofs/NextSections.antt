@@ -1,5 +1,5 @@
 -- The section that comes next is the first of the sections that are ahead.
-use Rattle.std.proofs.Common.{◌≡◌, ℕ, ◌+◌, Bool, List, [], ◌∷◌, ◌++◌, length, drop, Option, Some, None, refl, sym, ap, subst, ◌∙◌, append-nil}
+use Rattle.std.proofs.Common.{◌≡◌, ℕ, ◌+◌, Bool, List, [], ◌∷◌, ◌++◌, length, drop, Option, Some, None, refl, sym, ap, subst, ◌∙◌, append-nil, arith}
 use Rattle.std.specs.Borrow.{Bor}
 use Rattle.std.specs.List.{AllByRecursion}
 use Rattle.cc_defs.specs.declared.log.LogLine.{LogLine}
@@ -8,8 +8,9 @@ use Rattle.cc_defs.specs.declared.log.Version.{Version}
 use Rattle.cc_defs.specs.LogBytes.{IsSpelled}
 use Rattle.cc_defs.specs.Logs.{SectionText, AreSections, IsNoHeading}
 use Rattle.cc_check.specs.declared.line.Heading.{Heading}
-use Rattle.cc_check.specs.Parts.{IsInside, next_view}
-use Rattle.cc_check.specs.SectionTexts.{SectionBytes, SectionsAhead, AreAhead, AreAheadFrom, IsAheadBehind, IsTextOf}
+use Rattle.cc_check.specs.declared.sections.Section.{Section}
+use Rattle.cc_check.specs.Parts.{IsFewAhead, IsInside, next_view}
+use Rattle.cc_check.specs.SectionTexts.{SectionsAhead, AreAhead, AreAheadFrom, IsAheadBehind, IsTextOf}
 use Rattle.cc_check.specs.Texts.{AreTexts}
 use Rattle.cc_log.proofs.ConvertingLines.{one_spelled}
 use Rattle.cc_check.proofs.EntryThere.{texts_there}
@@ -60,15 +61,15 @@ section_horizon (lines.Derived clause chain) = 0
 section_horizon (lines.Block row) = 0
 section_horizon (lines.End word) = 0
 
-module _ (version : Version) (line : ℕ) (heading : Heading) (behind : Bor (List ℕ)) (inside : List ℕ) (count : ℕ) where
-  abbrev section : SectionBytes
+module _ (version : Version) (line : ℕ) (heading : Heading) (behind inside : Bor (List ℕ)) (count : ℕ) where
+  abbrev section : Section
   section = record { version = version; conditions = heading.conditions; horizon = heading.horizon; line = line; bytes = inside }
 
   abbrev ahead_of : Option (Heading × Bor (List ℕ)) → SectionsAhead
   ahead_of next = record { version = version; line = line + 1 + count; next = next_view next }
 
   is_of : (first : SectionText) (text : List ℕ) → first.version ≡ version → first.line ≡ line → IsSpelled version text (lines.Section first.conditions first.horizon) →
-      IsSpelled version text (lines.Section heading.conditions heading.horizon) → AreTexts version inside first.texts → IsTextOf section first
+      IsSpelled version text (lines.Section heading.conditions heading.horizon) → AreTexts version inside.now first.texts → IsTextOf section first
   is_of first text same at spelled read are =
       let one = one_spelled version text (lines.Section first.conditions first.horizon) (lines.Section heading.conditions heading.horizon) spelled read in
       record {
@@ -79,15 +80,15 @@ module _ (version : Version) (line : ℕ) (heading : Heading) (behind : Bor (Lis
         texts = are;
       }
 
-  next_of : (next : Option (Heading × Bor (List ℕ))) → IsInside version behind.now inside count next → (first : SectionText) (sections : List SectionText)
+  next_of : (next : Option (Heading × Bor (List ℕ))) → IsInside version behind.now inside.now count next → (first : SectionText) (sections : List SectionText)
       (text : List ℕ) (rest texts : List (List ℕ)) → AreTexts version behind.now texts → texts ≡ first.texts ++ rest → AllByRecursion (IsNoHeading version) first.texts →
       AreSections version (line + 1 + length first.texts) rest sections →
-      AreTexts version inside first.texts × AreAheadFrom version (line + 1 + count) (next_view next) sections
+      AreTexts version inside.now first.texts × AreAheadFrom version (line + 1 + count) (next_view next) sections
   next_of None i first sections text rest texts are parts none more =
       let whole = one_list version behind.now texts i.texts are (subst (λ (t : List ℕ). AreTexts version t i.texts) i.parted i.are) in
       let (same, last) = one_front (IsNoHeading version) first.texts i.texts rest [] none i.none
       (begins_headed version (line + 1 + length first.texts) rest sections more) tt (sym parts ∙ whole ∙ sym (append-nil i.texts)) in (
-        subst (λ (ts : List (List ℕ)). AreTexts version inside ts) (sym same) i.are,
+        subst (λ (ts : List (List ℕ)). AreTexts version inside.now ts) (sym same) i.are,
         none_left version (line + 1 + length first.texts) sections
             (subst (λ (ts : List (List ℕ)). AreSections version (line + 1 + length first.texts) ts sections) last more),
       )
@@ -99,7 +100,7 @@ module _ (version : Version) (line : ℕ) (heading : Heading) (behind : Bor (Lis
       (begins_headed version (line + 1 + length first.texts) rest sections more) (λ no_heading. no_heading other.conditions other.horizon headed)
       (sym parts ∙ whole) in
       let counted : length first.texts ≡ count = ap length same ∙ sym i.counted in (
-        subst (λ (ts : List (List ℕ)). AreTexts version inside ts) (sym same) i.are,
+        subst (λ (ts : List (List ℕ)). AreTexts version inside.now ts) (sym same) i.are,
         (
           after,
           outer,
@@ -116,7 +117,7 @@ module _ (version : Version) (line : ℕ) (heading : Heading) (behind : Bor (Lis
   ahead_here ahead next same some all are =
       subst (λ (n : Option (Heading × Bor (List ℕ))). AreAheadFrom version line (next_view n) all) some (subst (λ (a : SectionsAhead). AreAhead a all) (sym same) are)
 
-  pub section_next : (next : Option (Heading × Bor (List ℕ))) → IsInside version behind.now inside count next → (all : List SectionText) →
+  pub section_next : (next : Option (Heading × Bor (List ℕ))) → IsInside version behind.now inside.now count next → (all : List SectionText) →
       AreAheadFrom version line (next_view (Some (heading, behind))) all → IsAheadBehind all (Some section) (ahead_of next)
   section_next next i [] (text, texts, read, are, split) = absurd cc
   section_next next i (first ∷ sections) (text, texts, read, are, (head, rest, parts, at, spelled, none, more, same)) =
@@ -129,3 +130,19 @@ module _ (version : Version) (line : ℕ) (heading : Heading) (behind : Bor (Lis
         is_of first text same at (subst (λ (t : List ℕ). IsSpelled version t (lines.Section first.conditions first.horizon)) text_is spelled) read are_inside,
         are_ahead,
       )
+
+  few_next : (next : Option (Heading × Bor (List ℕ))) → IsInside version behind.now inside.now count next → IsFewAhead line (Some (heading, behind)) → IsFewAhead (line + 1 + count) next
+  few_next None i few = tt
+  few_next (Some (other, others)) i few =
+      let less = i.fewer in
+      let most = few.0 in
+      let room = few.1 in
+      (omega arith, omega arith)
+
+  -- what is ahead of the others is sections still, and not too long
+  pub still_there : (old next : Option (Heading × Bor (List ℕ))) → old ≡ Some (heading, behind) → IsInside version behind.now inside.now count next → IsFewAhead line old →
+      ((all : List SectionText) × AreAheadFrom version line (next_view old) all) → IsFewAhead (line + 1 + count) next × ((others : List SectionText) × AreAhead (ahead_of next) others)
+  still_there old next some i few (all, are) =
+      let here = subst (λ (n : Option (Heading × Bor (List ℕ))). AreAheadFrom version line (next_view n) all) some are in
+      let (text, others, same, is, left) = section_next next i all here in
+      (few_next next i (subst (IsFewAhead line) some few), (others, left))

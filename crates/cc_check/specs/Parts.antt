@@ -1,4 +1,4 @@
--- A section of a log, as its holder sees it.
+-- The sections of a log, as their holder sees them.
 use Rattle.std.specs.Prelude.{◌≡◌, ℕ, ◌+◌, ◌<◌, ◌≤◌, List, ◌∷◌, ◌++◌, Option, MatchOption, length, option_map}
 use Rattle.std.specs.Borrow.{Bor}
 use Rattle.std.specs.List.{AllByRecursion}
@@ -15,18 +15,10 @@ use Rattle.cc_defs.specs.Sections.{HasNoForm}
 use Rattle.cc_check.specs.declared.fault.CheckFault.{CheckFault}
 use Rattle.cc_check.specs.declared.fault.CheckFault.TheVariants as faults
 use Rattle.cc_check.specs.declared.line.Heading.{Heading}
-use Rattle.cc_check.specs.declared.sections.Section.TheInside.{Inside}
 use Rattle.cc_check.specs.declared.sections.Sections.TheInside.{Inside as AllInside}
-use Rattle.cc_check.specs.SectionTexts.{SectionBytes, HeadingAhead, SectionsAhead, AreAhead}
+use Rattle.cc_check.specs.SectionTexts.{HeadingAhead, SectionsAhead, AreAhead}
 use Rattle.cc_check.specs.Splits.{Misread, Parts, IsSplit, IsSplitBehind}
 use Rattle.cc_check.specs.Texts.{AreTexts, IsFirstText}
-
-abbrev pub section_view : Inside → SectionBytes
-section_view section =
-    record { version = section.version; conditions = section.conditions; horizon = section.horizon; line = section.line; bytes = section.bytes.now }
-
-abbrev pub IsSection : Inside → Type 0
-IsSection section = (length section.bytes.now ≤ most_log_bytes) × (section.line ≤ most_log_bytes + 1)
 
 abbrev pub next_view : Option (Heading × Bor (List ℕ)) → Option HeadingAhead
 next_view next = option_map (λ next. record { conditions = next.0.conditions; horizon = next.0.horizon; behind = next.1.now }) next
@@ -41,6 +33,10 @@ IsFewAhead line next =
 
 abbrev pub HasFewAhead : AllInside → Type 0
 HasFewAhead sections = IsFewAhead sections.line sections.next
+
+-- what is ahead is sections, and not too long
+abbrev pub AreAheadInside : AllInside → Type 0
+AreAheadInside sections = HasFewAhead sections × ((all : List SectionText) × AreAhead (ahead_view sections) all)
 
 -- ---- what the bytes of a log are read as
 

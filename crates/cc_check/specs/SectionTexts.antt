@@ -1,34 +1,31 @@
 -- A section of a log by its bytes, the texts that these stand for, and the sections that are ahead.
-use Rattle.std.specs.Prelude.{◌≡◌, ℕ, suc, ◌+◌, Bool, List, [], ◌∷◌, Option, Some, None, length}
+use Rattle.std.specs.Prelude.{◌≡◌, ℕ, suc, ◌+◌, ◌<◌, Bool, true, List, [], ◌∷◌, Option, Some, None, length, slice_get}
+use Rattle.cc_defs.specs.declared.log.EndWord.{EndWord}
 use Rattle.cc_defs.specs.declared.log.LogLine.TheVariants as lines
 use Rattle.cc_defs.specs.declared.log.Version.{Version}
 use Rattle.cc_defs.specs.LogBytes.{IsSpelled}
 use Rattle.cc_defs.specs.Logs.{SectionText, AreSections}
-use Rattle.cc_defs.specs.Sections.{Axioms, Finding, IsFound}
+use Rattle.cc_defs.specs.Sections.{Axioms, Finding, Right, IsFound}
+use Rattle.cc_check.specs.declared.sections.Section.{Section}
 use Rattle.cc_check.specs.Texts.{AreTexts}
 
--- A section as it stands in a log: how its lines are written, what its heading says, the number of the heading's line, and the
--- bytes of the lines up to the next heading.
-pub record SectionBytes : Type 0 where
-  pub version : Version
-  pub conditions : Bool
-  pub horizon : ℕ
-  pub line : ℕ
-  pub bytes : List ℕ
-
 -- it is this section, text by text
-pub record IsTextOf (section : SectionBytes) (text : SectionText) : Type 0 where
+pub record IsTextOf (section : Section) (text : SectionText) : Type 0 where
   pub version : text.version ≡ section.version
   pub conditions : text.conditions ≡ section.conditions
   pub horizon : text.horizon ≡ section.horizon
   pub line : text.line ≡ section.line
-  pub texts : AreTexts section.version section.bytes text.texts
+  pub texts : AreTexts section.version section.bytes.now text.texts
 
 -- What the lines of a section are found to be over axioms, where a row may be blocked or not: the same of all texts that it is.
-abbrev pub IsFoundOf : (blocks : Bool) → Axioms → SectionBytes → Finding → Type 0
+abbrev pub IsFoundOf : (blocks : Bool) → Axioms → Section → Finding → Type 0
 IsFoundOf blocks axioms section finding =
     (text : SectionText) → IsTextOf section text →
     IsFound (record { version = section.version; blocks = blocks }) axioms axioms.clauses 0 (section.line + 1) text.texts finding
+
+-- each of its lines is right over axioms, where a row may be blocked, and the last one ends it
+abbrev pub IsRightOf : Axioms → Section → Type 0
+IsRightOf axioms section = (word : EndWord) × (blocks : ℕ) × (line : ℕ) × IsFoundOf true axioms section (Right word blocks line)
 
 -- ---- the sections that are ahead
 
@@ -55,10 +52,18 @@ abbrev pub AreAhead : SectionsAhead → List SectionText → Type 0
 AreAhead ahead all = AreAheadFrom ahead.version ahead.line ahead.next all
 
 -- of these sections this is the first, if there is one, and the others are ahead
-abbrev pub IsAheadBehind : List SectionText → Option SectionBytes → SectionsAhead → Type 0
+abbrev pub IsAheadBehind : List SectionText → Option Section → SectionsAhead → Type 0
 IsAheadBehind all None ahead = all ≡ []
 IsAheadBehind all (Some section) ahead =
     (text : SectionText) × (others : List SectionText) × (all ≡ text ∷ others) × IsTextOf section text × AreAhead ahead others
+
+-- more sections than so many are ahead
+abbrev pub HasAhead : SectionsAhead → ℕ → Type 0
+HasAhead ahead place = (all : List SectionText) → AreAhead ahead all → place < length all
+
+-- of these sections this is the one at a place, from 0
+abbrev pub IsAheadAt : List SectionText → ℕ → Section → Type 0
+IsAheadAt all place section = (text : SectionText) × (slice_get all place ≡ Some text) × IsTextOf section text
 
 abbrev pub length_from : Option HeadingAhead → ℕ
 length_from None = 0

@@ -378,40 +378,26 @@ pub(crate) fn find_lines(
     checker.find(form, version, may, first, bytes)
 }
 
-// What is found of the lines of a section, where a row may be blocked or not.
-fn found_in(
-    alloc: Global,
-    form: &Form,
-    may: bool,
-    section: &Section<'_>,
-) -> Result<Finding, OutOfMemory>
+// What is found of the lines of a section.
+fn found_in(alloc: Global, form: &Form, section: &Section<'_>) -> Result<Finding, OutOfMemory>
+    requires few { length section.now.bytes.now ≤ most_log_bytes }
+    requires line { section.now.line ≤ most_log_bytes + 1 }
     ensures found { IfOk result (λ finding.
-        IsFoundOf may form.now section.now (plain_finding finding)) }
+        IsFoundOf true form.now section.now (plain_finding finding)) }
     ensures few { IfOk result (λ finding. HasLineBehind finding) }
 {
-    let (line, bytes) = section.lines();
-    find_lines(alloc, form, section.version(), may, line, bytes)
+    let line = section.line + 1;
+    find_lines(alloc, form, section.version, true, line, section.bytes)
 }
 
 /// Goes through the lines of a section, as its version writes them, over the clauses of a form, those of its horizon and its search:
 /// each is right up to the one that ends the section, or it finds the first that is not.
 pub fn find(alloc: Global, form: &Form, section: &Section<'_>) -> Result<Finding, OutOfMemory>
+    requires few { length section.now.bytes.now ≤ most_log_bytes }
+    requires line { section.now.line ≤ most_log_bytes + 1 }
     ensures { IfOk result (λ finding. IsFoundOf true form.now section.now (plain_finding finding)) }
 {
-    found_in(alloc, form, true, section)
-}
-
-/// As `find`, for a section in which no row may be blocked: a block is out of its place there (`Section`).
-pub fn find_silent(
-    alloc: Global,
-    form: &Form,
-    section: &Section<'_>,
-) -> Result<Finding, OutOfMemory>
-    ensures found { IfOk result (λ finding.
-        IsFoundOf false form.now section.now (plain_finding finding)) }
-    ensures few { IfOk result (λ finding. HasLineBehind finding) }
-{
-    found_in(alloc, form, false, section)
+    found_in(alloc, form, section)
 }
 
 // A section is right by itself, or its first line that is not: behind an end that is the line there.
@@ -438,22 +424,12 @@ fn verdict_of(finding: Finding) -> Verdict
 }
 
 /// Checks a section over the clauses of a form, those of its horizon and its search: each line is right, and the last one ends the
-/// section; or the first that is not. Whether the log may go on behind such an end is not looked at.
+/// section; or the first that is not. Whether the log may go on after such an end is not looked at.
 pub fn check(alloc: Global, form: &Form, section: &Section<'_>) -> Result<Verdict, OutOfMemory>
+    requires few { length section.now.bytes.now ≤ most_log_bytes }
+    requires line { section.now.line ≤ most_log_bytes + 1 }
     ensures { IfOk result (λ verdict. (finding : PlainFinding)
         × IsFoundOf true form.now section.now finding × IsVerdictOf finding verdict) }
 {
-    Ok(verdict_of(found_in(alloc, form, true, section)?))
-}
-
-/// As `check`, for a section in which no row may be blocked: a block is out of its place there (`Section`).
-pub fn check_silent(
-    alloc: Global,
-    form: &Form,
-    section: &Section<'_>,
-) -> Result<Verdict, OutOfMemory>
-    ensures { IfOk result (λ verdict. (finding : PlainFinding)
-        × IsFoundOf false form.now section.now finding × IsVerdictOf finding verdict) }
-{
-    Ok(verdict_of(found_in(alloc, form, false, section)?))
+    Ok(verdict_of(found_in(alloc, form, section)?))
 }

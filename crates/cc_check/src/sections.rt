@@ -1,18 +1,18 @@
 //! A log split into its sections.
-ghost use Rattle.std.specs.Prelude.{◌≡◌, ◌+◌, ◌-◌, ◌≤◌, ◌<◌, List, length, take, IfOk, IfErr, IfSome, OnErr};
+ghost use Rattle.std.specs.Prelude.{◌≡◌, ◌+◌, ◌-◌, ◌≤◌, ◌<◌, List, length, take, IfOk, IfErr, IfSome};
 ghost use Rattle.cc_defs.specs.declared.log.Version.TheVariants as versions;
 ghost use Rattle.cc_defs.specs.Limits.{most_log_bytes};
 ghost use Rattle.cc_defs.specs.Logs.{SectionText};
 ghost use Rattle.cc_check.specs.declared.fault.CheckFault.TheVariants as faults;
 ghost use Rattle.cc_check.specs.Parts.{AreSectionsBehind, AreSectionsOf, IsCut, IsInside, IsRefusal, IsRefusalBehind, IsSecond, IsSecondAt};
-ghost use Rattle.cc_check.specs.SectionTexts.{AreAhead, IsAheadBehind, length_ahead};
+ghost use Rattle.cc_check.specs.SectionTexts.{AreAhead, HasAhead, IsAheadAt, IsAheadBehind, length_ahead};
 
 use crate::CheckFault;
 use crate::entry::{heading_in, read_entry};
 use crate::front::read_text;
 use crate::line::{Heading, heading_of, read_line};
 use crate::text::first_line;
-use cc_defs::{Cause, OutOfMemory, Version};
+use cc_defs::{Cause, Version};
 use std::alloc::Global;
 use std::marker::Model;
 
@@ -30,103 +30,19 @@ struct Inside<'b> {
     next: Option<(Heading, &'b [u8])>,
 }
 
-/// A section of a log: its heading, and the lines up to the next heading.
-#[derive(Drop)]
+/// A section of a log: what its heading says, and the lines up to the next heading.
+#[derive(Clone, Copy)]
 pub struct Section<'b> {
-    version: Version,
-    conditions: bool,
-    horizon: u32,
-    line: u32,
-    bytes: &'b [u8],
-}
-
-impl<'b> Model for Section<'b> {
-    ghost use Rattle.cc_check.specs.SectionTexts.{SectionBytes};
-
-    ghost Value = { SectionBytes };
-
-    ghost use Rattle.cc_check.specs.Parts.{section_view, IsSection};
-
-    ghost view = { section_view };
-
-    ghost invariant = { IsSection };
-}
-
-impl<'b> Section<'b> {
-    /// A section under a heading: how its lines are written, whether it is the search for a path of the conditions, its horizon,
-    /// the line of the heading in the log, from 1, and the bytes of its lines, up to the next heading.
-    pub fn of(
-        version: Version,
-        conditions: bool,
-        horizon: u32,
-        line: u32,
-        bytes: &'b [u8],
-    ) -> Section<'b>
-        requires few { length bytes.now ≤ most_log_bytes }
-        requires line { line ≤ most_log_bytes + 1 }
-        ensures { result ≡ record {
-          version = version;
-          conditions = conditions;
-          horizon = horizon;
-          line = line;
-          bytes = bytes.entry.now;
-        } }
-    {
-        Section {
-            version,
-            conditions,
-            horizon,
-            line,
-            bytes,
-        }
-    }
-
     /// How its lines are written.
-    pub fn version(&self) -> Version
-        ensures { result ≡ self.now.version }
-    {
-        self.version
-    }
-
-    /// The bytes of its lines.
-    pub fn bytes(&self) -> &'b [u8]
-        ensures bytes { result.now ≡ self.now.bytes }
-        ensures few { length result.now ≤ most_log_bytes }
-    {
-        self.bytes
-    }
-
+    pub version: Version,
     /// Whether it is the search for a path that meets the conditions of a query with a claim.
-    pub fn conditions(&self) -> bool
-        ensures { result ≡ self.now.conditions }
-    {
-        self.conditions
-    }
-
+    pub conditions: bool,
     /// The horizon that its heading names.
-    pub fn horizon(&self) -> u32
-        ensures { result ≡ self.now.horizon }
-    {
-        self.horizon
-    }
-
+    pub horizon: u32,
     /// The line of its heading in the log, from 1.
-    pub fn line(&self) -> u32
-        ensures line { result ≡ self.now.line }
-        ensures most { result ≤ most_log_bytes + 1 }
-    {
-        self.line
-    }
-
-    // The number of the line behind its heading, and its lines.
-    pub(crate) fn lines(&self) -> (u32, &'b [u8])
-        ensures line { result.0 ≡ self.now.line + 1 }
-        ensures bytes { result.1.now ≡ self.now.bytes }
-        ensures few { length result.1.now ≤ most_log_bytes }
-        ensures most { result.0 ≤ most_log_bytes + 2 }
-    {
-        (self.line + 1, self.bytes)
-    }
+    pub line: u32,
+    /// The bytes of its lines, up to the next heading.
+    pub bytes: &'b [u8],
 }
 
 // The front of a text of which so many bytes are left.
@@ -232,11 +148,11 @@ impl<'b> Model for Sections<'b> {
 
     ghost Value = { SectionsAhead };
 
-    ghost use Rattle.cc_check.specs.Parts.{ahead_view, HasFewAhead};
+    ghost use Rattle.cc_check.specs.Parts.{ahead_view, AreAheadInside};
 
     ghost view = { ahead_view };
 
-    ghost invariant = { HasFewAhead };
+    ghost invariant = { AreAheadInside };
 }
 
 // The sections of the bytes behind a header.
@@ -279,17 +195,17 @@ impl<'b> Sections<'b> {
         read_behind(Version::First, body)
     }
 
-    /// Reads the section that comes next, up to the heading behind it; a section is a part of the bytes. Nothing: none is left.
-    /// Where memory is wanting, it comes next still.
-    pub fn next(&mut self) -> Result<Option<Section<'b>>, OutOfMemory>
+    /// Reads the section that comes next, up to the heading after it; a section is a part of the bytes. Nothing: none is left.
+    /// It takes no memory.
+    pub fn next(&mut self) -> Option<Section<'b>>
         ensures next { (all : List SectionText) → AreAhead self.old all →
-            IfOk result (λ section. IsAheadBehind all section self.new) }
-        ensures shorter { IfOk result (λ section.
-            IfSome section (λ _. length_ahead self.new < length_ahead self.old)) }
-        ensures kept { OnErr result (self.new ≡ self.old) }
+            IsAheadBehind all result self.new }
+        ensures shorter { IfSome result (λ _. length_ahead self.new < length_ahead self.old) }
+        ensures few { IfSome result (λ section. length section.bytes.now ≤ most_log_bytes) }
+        ensures line { IfSome result (λ section. section.line ≤ most_log_bytes + 1) }
     {
         let Some((heading, behind)) = self.next else {
-            return Ok(None);
+            return None;
         };
         let inside = inside_of(self.version, behind);
         let section = Section {
@@ -301,7 +217,51 @@ impl<'b> Sections<'b> {
         };
         self.line = self.line + 1 + inside.count;
         self.next = inside.next;
-        Ok(Some(section))
+        Some(section)
+    }
+
+    // The same sections, to be read another time.
+    fn again(&self) -> Sections<'b>
+        ensures same { result ≡ self.now }
+        ensures there { (all : List SectionText) × AreAhead result all }
+        ensures few { length_ahead result ≤ most_log_bytes + 1 }
+    {
+        Sections {
+            version: self.version,
+            line: self.line,
+            next: self.next,
+        }
+    }
+
+    /// How many sections are ahead. It reads the bytes that are ahead once, so its time is linear in them, and takes no memory.
+    pub fn count(&self) -> usize
+        ensures { (all : List SectionText) → AreAhead self.now all → result ≡ length all }
+    {
+        let mut rest = self.again();
+        let mut count = 0;
+        while let Some(_) = rest.next() {
+            count += 1;
+        }
+        count
+    }
+
+    /// The section at a place among those that are ahead, from 0. It reads the bytes up to its end, so its time is linear in
+    /// them, and takes no memory; a pass over all sections is made by `next`, which reads each of them once.
+    pub fn section(&self, i: usize) -> Section<'b>
+        requires { HasAhead self.now i }
+        ensures section { (all : List SectionText) → AreAhead self.now all →
+            IsAheadAt all i result }
+        ensures few { length result.bytes.now ≤ most_log_bytes }
+        ensures line { result.line ≤ most_log_bytes + 1 }
+    {
+        let mut rest = self.again();
+        for _ in 0..i {
+            let _ = rest.next();
+        }
+        match rest.next() {
+            Some(section) => section,
+            None => unreachable!(),
+        }
     }
 }
 

@@ -14,7 +14,8 @@ use Rattle.cc_defs.specs.Logs.{SectionText, Standing, IsVerdict, at_first}
 use Rattle.cc_defs.specs.Resolved.{Query}
 use Rattle.cc_defs.specs.Sections.{Axioms}
 use Rattle.cc_check.specs.Laws.{SectionsGiveVerdicts}
-use Rattle.cc_check.specs.SectionTexts.{SectionBytes, SectionsAhead, AreAhead, IsAheadBehind, IsTextOf}
+use Rattle.cc_check.specs.declared.sections.Section.{Section}
+use Rattle.cc_check.specs.SectionTexts.{SectionsAhead, AreAhead, IsAheadBehind, IsTextOf}
 use Rattle.cc_check.specs.Splits.{Parts, IsSplit}
 use Rattle.cc_judge.specs.declared.standing.Next.TheVariants as nexts
 use Rattle.cc_judge.specs.declared.standing.Standing.{Standing as Held}
@@ -117,7 +118,7 @@ pub record SoFar (I : Type 0) (scope : I → Scope) (start : ℕ) (begun ahead :
 
 module _ (I : Type 0) (scope : I → Scope) (start : ℕ) (begun : SectionsAhead) where
   module _ (ahead : SectionsAhead) (held : Held) (so_far : SoFar I scope start begun ahead held) where
-    module _ (section : SectionBytes) (behind : SectionsAhead)
+    module _ (section : Section) (behind : SectionsAhead)
         (next_is : (all : List SectionText) → AreAhead ahead all → IsAheadBehind all (Some section) behind) where
       -- the text of the section, and what is left behind it
       record Here (all : List SectionText) : Type 0 where

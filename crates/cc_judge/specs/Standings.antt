@@ -2,7 +2,8 @@
 use Rattle.std.specs.Prelude.{◌≡◌, ◌≢◌, ℕ, ◌+◌, ◌-◌, ◌<◌, ◌≤◌, ◌⊎◌, Bool, true, false, not, ◌&&◌, List, ◌∷◌, length, Option, None, option_map, is_some, Contains}
 use Rattle.cc_check.specs.declared.judge.Finding.{Finding as Found}
 use Rattle.cc_check.specs.declared.judge.Finding.TheVariants as findings
-use Rattle.cc_check.specs.SectionTexts.{SectionBytes, SectionsAhead, AreAhead, IsTextOf}
+use Rattle.cc_check.specs.declared.sections.Section.{Section}
+use Rattle.cc_check.specs.SectionTexts.{SectionsAhead, AreAhead, IsTextOf}
 use Rattle.cc_defs.specs.declared.lists.Key.{Key}
 use Rattle.cc_defs.specs.declared.log.Cause.{Cause}
 use Rattle.cc_defs.specs.declared.log.Cause.TheVariants as causes
@@ -141,7 +142,7 @@ abbrev pub IsEarly : ℕ → SectionText → Type 0
 IsEarly blocked section = (blocked ≤ section.line) × (section.line + length section.texts ≤ most_log_bytes + 2)
 
 -- by its bytes
-abbrev pub IsEarlyIn : ℕ → SectionBytes → Type 0
+abbrev pub IsEarlyIn : ℕ → Section → Type 0
 IsEarlyIn blocked section = (text : SectionText) × IsTextOf section text × IsEarly blocked text
 
 -- the horizon does not go down, and no more blocks stand before the next heading than lines

@@ -1,5 +1,5 @@
 //! What a checker says of a log of a query.
-ghost use Rattle.std.specs.Prelude.{◌≡◌, ℕ, ◌≤◌, List, IfErr, IfOk, IfSome, length, option_map};
+ghost use Rattle.std.specs.Prelude.{◌≡◌, ℕ, ◌+◌, ◌≤◌, List, IfErr, IfOk, IfSome, length, option_map};
 ghost use Rattle.cc_arena.specs.GroundViews.{plain_ground_query};
 ghost use Rattle.cc_defs.specs.Description.{Description};
 ghost use Rattle.cc_defs.specs.GroundLaws.{StandsForQuery};
@@ -42,6 +42,8 @@ fn judge_section(
     requires first { first_at
         (plain_ground_query query.now) (option_map (λ key. key.now) after) ≤ standing.now.horizon }
     requires early { IsEarlyIn standing.now.blocked section.now }
+    requires few { length section.now.bytes.now ≤ most_log_bytes }
+    requires line { section.now.line ≤ most_log_bytes + 1 }
     ensures judged { (d : Description) (q : Query) →
         AreLawsOf sig.now laws.now d → StandsForQuery (plain_ground_query query.now) d q →
         (text : SectionText) → IsTextOf section.now text → IfOk result (IsJudgedTo
@@ -57,7 +59,7 @@ fn judge_section(
     denial_leaves_others();
     if !is_next(query, after, standing, section) {
         return Ok(Next::Wrong {
-            line: section.line(),
+            line: section.line,
             cause: Cause::Section,
         });
     }
@@ -67,11 +69,11 @@ fn judge_section(
         laws,
         query,
         after,
-        section.horizon(),
-        !section.conditions(),
+        section.horizon,
+        !section.conditions,
     )?;
     let finding = find(alloc, &form, section)?;
-    Ok(follow(standing, section.conditions(), finding))
+    Ok(follow(standing, section.conditions, finding))
 }
 
 // The verdict of a log that is split into its sections.
@@ -105,7 +107,7 @@ fn judge_sections(
         blocked: 0,
         line: 2,
     };
-    while let Some(section) = sections.next()? {
+    while let Some(section) = sections.next() {
         match judge_section(alloc, sig, laws, query, after, &standing, &section)? {
             Next::Goes(next) => standing = next,
             Next::Wrong { line, cause } => return Ok(LogVerdict::Refused { line, cause }),

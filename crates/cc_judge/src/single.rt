@@ -1,5 +1,5 @@
 //! What a checker says of a log of one section.
-ghost use Rattle.std.specs.Prelude.{◌↔◌, ◌≤◌, List, IfOk, IsTrue, length};
+ghost use Rattle.std.specs.Prelude.{◌↔◌, ◌+◌, ◌≤◌, List, IfOk, IsTrue, length};
 ghost use Rattle.cc_check.specs.SectionTexts.{AreAhead, IsTextOf};
 ghost use Rattle.cc_clauses.specs.RowsOf.{IsRowOf};
 ghost use Rattle.cc_defs.specs.Limits.{most_log_bytes};
@@ -21,7 +21,7 @@ fn is_only(standing: &Standing, section: &Section<'_>) -> bool
     ensures { IsTrue result
         ↔ IsOnly (seen standing.now) section.now.conditions section.now.horizon }
 {
-    !section.conditions() && section.horizon() == 0 && standing.horizon == 0
+    !section.conditions && section.horizon == 0 && standing.horizon == 0
 }
 
 // What is behind a section, which is judged over the form where it is the only one.
@@ -31,7 +31,9 @@ fn judge_only(
     standing: &Standing,
     section: &Section<'_>,
 ) -> Result<Next, OutOfMemory>
-    requires { IsEarlyIn standing.now.blocked section.now }
+    requires early { IsEarlyIn standing.now.blocked section.now }
+    requires few { length section.now.bytes.now ≤ most_log_bytes }
+    requires line { section.now.line ≤ most_log_bytes + 1 }
     ensures judged { (text : SectionText) → IsTextOf section.now text →
         IfOk result (IsJudgedTo (scope_over form.now) (seen standing.now) text) }
     ensures forward { (text : SectionText) → IsTextOf section.now text →
@@ -41,12 +43,12 @@ fn judge_only(
     denial_leaves_others();
     if !is_only(standing, section) {
         return Ok(Next::Wrong {
-            line: section.line(),
+            line: section.line,
             cause: Cause::Section,
         });
     }
     let finding = find(alloc, form, section)?;
-    Ok(follow(standing, section.conditions(), finding))
+    Ok(follow(standing, section.conditions, finding))
 }
 
 // The verdict of a log that is split into its sections.
@@ -65,7 +67,7 @@ fn judge_each(
         blocked: 0,
         line: 2,
     };
-    while let Some(section) = sections.next()? {
+    while let Some(section) = sections.next() {
         match judge_only(alloc, form, &standing, &section)? {
             Next::Goes(next) => standing = next,
             Next::Wrong { line, cause } => return Ok(LogVerdict::Refused { line, cause }),

@@ -78,8 +78,8 @@ pub(crate) fn is_next(
         ↔ IsPlaced (plain_ground_query query.now) (option_map (λ key. key.now) after.entry)
         (seen standing.now) section.now.conditions section.now.horizon }
 {
-    section.conditions() == asks_conditions(query, standing)
-        && section.horizon() == standing.horizon
+    section.conditions == asks_conditions(query, standing)
+        && section.horizon == standing.horizon
         && standing.horizon <= last_of(query, after)
 }
 

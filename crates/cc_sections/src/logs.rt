@@ -1,5 +1,7 @@
 //! The sections of a log, each checked over a clause list of its own.
+ghost use Rattle.std.specs.Prelude.{◌+◌, ◌≤◌, length};
 ghost use Rattle.cc_arena.specs.GroundViews.{plain_ground_query};
+ghost use Rattle.cc_defs.specs.Limits.{most_log_bytes};
 ghost use Rattle.cc_sections.specs.Asked.{AreAskable};
 
 use crate::ask::Ask;
@@ -43,10 +45,9 @@ fn show_verdict(out: &mut String, verdict: Verdict) -> Result<(), OutOfMemory> {
 }
 
 fn show_heading(out: &mut String, section: &Section<'_>) -> Result<(), OutOfMemory> {
-    let horizon = section.horizon();
-    let line = section.line();
+    let Section { horizon, line, .. } = *section;
     out.push_str("section ")?;
-    out.push_str(if section.conditions() { "w" } else { "h" })?;
+    out.push_str(if section.conditions { "w" } else { "h" })?;
     write!(out, " {horizon} line {line}: ")?;
     Ok(())
 }
@@ -60,10 +61,12 @@ fn judged(
     after: Option<&Vec<u32>>,
     section: &Section<'_>,
 ) -> Result<Verdict, Halt>
-    requires { AreAskable sig.now laws.now (plain_ground_query query.now) }
+    requires askable { AreAskable sig.now laws.now (plain_ground_query query.now) }
+    requires few { length section.now.bytes.now ≤ most_log_bytes }
+    requires line { section.now.line ≤ most_log_bytes + 1 }
 {
-    let denies = !section.conditions();
-    let form = form_at(alloc, sig, laws, query, section.horizon(), denies, after)?;
+    let denies = !section.conditions;
+    let form = form_at(alloc, sig, laws, query, section.horizon, denies, after)?;
     Ok(check(alloc, &form, section)?)
 }
 
@@ -76,7 +79,9 @@ fn show_section(
     after: Option<&Vec<u32>>,
     section: &Section<'_>,
 ) -> Result<(), Halt>
-    requires { AreAskable sig.now laws.now (plain_ground_query query.now) }
+    requires askable { AreAskable sig.now laws.now (plain_ground_query query.now) }
+    requires few { length section.now.bytes.now ≤ most_log_bytes }
+    requires line { section.now.line ≤ most_log_bytes + 1 }
 {
     show_heading(out, section)?;
     let verdict = judged(alloc, sig, laws, query, after, section)?;
@@ -94,7 +99,7 @@ fn show_sections(
 ) -> Result<(), Halt>
     requires { AreAskable sig.now laws.now (plain_ground_query query.now) }
 {
-    while let Some(section) = sections.next()? {
+    while let Some(section) = sections.next() {
         show_section(alloc, out, sig, laws, query, after, &section)?;
     }
     Ok(())

@@ -16,12 +16,12 @@ const LOG: &[u8] =
 // Whether a section comes next, is at this line, and has these bytes.
 fn is_next(sections: &mut Sections<'_>, conditions: bool, line: u32, bytes: &[u8]) -> bool {
     match sections.next() {
-        Ok(Some(section)) => {
+        Some(section) => {
             is_at(&section, conditions, line)
-                && section.version() == Version::Second
-                && section.bytes() == bytes
+                && section.version == Version::Second
+                && section.bytes == bytes
         }
-        Ok(None) | Err(_) => false,
+        None => false,
     }
 }
 
@@ -61,7 +61,13 @@ fn logs_are_misread(rt: HostRuntime) {
 fn found_over(alloc: Global, form: &Form, bytes: &[u8]) -> Result<Finding, Fault>
     requires { length bytes.now ≤ 100 }
 {
-    let section = Section::of(Version::Second, false, 0, 2, bytes);
+    let section = Section {
+        version: Version::Second,
+        conditions: false,
+        horizon: 0,
+        line: 2,
+        bytes,
+    };
     Ok(find(alloc, form, &section)?)
 }
 

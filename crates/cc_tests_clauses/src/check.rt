@@ -6,12 +6,11 @@ ghost use Rattle.cc_form.specs.Queries.{IsQueryAt};
 ghost use Rattle.cc_theory.specs.Theories.{AreLawsFor};
 
 use cc_arena::{GroundQuery, Laws};
-use cc_check::{CheckFault, Finding, Section, Sections, Verdict, check, find, laws};
+use cc_check::{CheckFault, Finding, Section, Sections, Verdict, check, find, laws, put_line};
 use cc_defs::{
     Cause, EndWord, Fault, List, Lit, Lits, LogLine, Nums, OutOfMemory, Row, Sig, Version,
 };
 use cc_form::{Form, clauses};
-use cc_log::put_line;
 use cc_theory::Theory;
 use std::alloc::Global;
 use std::test::Fail;
@@ -58,23 +57,25 @@ fn lines_are_written(rt: HostRuntime) -> Result<(), Fail> {
 const LOG: &str = "ccalc log 1\nw 0\nd 0 1 2 3 0\ne empty\nh 0\nb 0 1\ne empty\n";
 
 pub(crate) fn is_at(section: &Section<'_>, conditions: bool, line: u32) -> bool {
-    section.conditions() == conditions && section.line() == line && section.horizon() == 0
+    section.conditions == conditions && section.line == line && section.horizon == 0
 }
 
 // Whether a section comes next, and is at this line.
 fn is_next_at(sections: &mut Sections<'_>, conditions: bool, line: u32) -> bool {
     match sections.next() {
-        Ok(Some(section)) => is_at(&section, conditions, line),
-        Ok(None) | Err(_) => false,
+        Some(section) => is_at(&section, conditions, line),
+        None => false,
     }
+}
+
+// Whether a section is at this place among those that are ahead, and at this line.
+fn is_at_place(sections: &Sections<'_>, place: usize, conditions: bool, line: u32) -> bool {
+    place < sections.count() && is_at(&sections.section(place), conditions, line)
 }
 
 // Whether no section comes next.
 pub(crate) fn is_last(sections: &mut Sections<'_>) -> bool {
-    match sections.next() {
-        Ok(next) => next.is_none(),
-        Err(_) => false,
-    }
+    sections.next().is_none()
 }
 
 #[test]
@@ -83,7 +84,12 @@ fn logs_are_split(rt: HostRuntime) -> Result<(), Fail> {
     if bytes.len() <= 1000 {
         match Sections::read(rt.alloc(), bytes) {
             Ok(mut sections) => {
+                assert!(rt; sections.count() == 2);
+                assert!(rt; is_at_place(&sections, 0, true, 2));
+                assert!(rt; is_at_place(&sections, 1, false, 5));
                 assert!(rt; is_next_at(&mut sections, true, 2));
+                assert!(rt; sections.count() == 1);
+                assert!(rt; is_at_place(&sections, 0, false, 5));
                 assert!(rt; is_next_at(&mut sections, false, 5));
                 assert!(rt; is_last(&mut sections));
             }
@@ -165,9 +171,16 @@ pub(crate) fn no_clauses(alloc: Global) -> Result<Form, Fault> {
 
 // A section behind the heading on line 2.
 fn section_of(text: &str) -> Section<'_>
-    requires { length text.now ≤ 100 }
+    ensures bytes { result.bytes.now ≡ text.now }
+    ensures line { result.line ≡ 2 }
 {
-    Section::of(Version::First, false, 0, 2, text.as_bytes())
+    Section {
+        version: Version::First,
+        conditions: false,
+        horizon: 0,
+        line: 2,
+        bytes: text.as_bytes(),
+    }
 }
 
 fn checked(alloc: Global, text: &str) -> Result<Verdict, Fault>

@@ -13,4 +13,8 @@ returns-clause-read c =
     first_read c.args.version c.args.body.now c.cut_text-heading.result.1.now c.cut_text-heading.result.0 c.cut_text-heading.ensures c.in-Some.heading c.in-Some.is
 
 pub invariant_of-result : goal.invariant_of-result
-invariant_of-result c = let less = text_shorter _ _ _ _ c.cut_text-heading.ensures.first in (omega arith, omega arith)
+invariant_of-result c =
+    let less = text_shorter _ _ _ _ c.cut_text-heading.ensures.first in
+    let (texts, are, (all, ahead, split)) = first_read c.args.version c.args.body.now c.cut_text-heading.result.1.now c.cut_text-heading.result.0 c.cut_text-heading.ensures c.in-Some.heading
+    c.in-Some.is in
+    ((omega arith, omega arith), (all, ahead))
