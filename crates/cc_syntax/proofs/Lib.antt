@@ -16,6 +16,7 @@ pub mod Places
 pub mod QueryReaders
 pub mod QuotedNames
 pub mod Quotes
+pub mod Readable
 pub mod Singles
 pub mod Stacks
 pub mod Statements

@@ -2,9 +2,10 @@
 use Rattle.std.proofs.Common.{◌≡◌, ℕ, Bool, true, ◌&&◌, List, [], ◌∷◌, Option, Some, None, is_some, refl, sym, ap, subst, ◌∙◌, inl, inr}
 use Rattle.std.specs.Prelude.{codes}
 use Rattle.cc_defs.specs.declared.token.Mark.TheVariants as marks
-use Rattle.cc_defs.specs.Tokens.{TokenView, AreTokens}
+use Rattle.cc_defs.specs.Tokens.{TokenView}
 use Rattle.cc_defs.specs.Trees.{PlainTree, PlainLaw, PlainPart, PlainStatement, Sorts, Objects, Variables, Constants, Query, Include, Law, Caused, Constraint, Always, Nonexecutable, Default, Exogenous, Inertial, Causes, MayCause, NoConcurrency}
 use Rattle.cc_defs.specs.Grammar.{Terminal, Word, Quoted, Sign, Spelling, ◌▸◌, sign, word, listed, terminals, sort_item, obj_item, list_item, const_item, query_item, tested_law, directive, part}
+use Rattle.cc_syntax.specs.Views.{AreReadable}
 use Rattle.cc_syntax.specs.Readers.{Reader, ◌>>=◌, sign_at, word_at, ◌◁◌}
 use Rattle.cc_syntax.specs.Laws.{opens_formula}
 use Rattle.cc_syntax.specs.Parsing.{items_at, include_at, directive_at, part_at, nothing_left, statement_at, OneTree}
@@ -143,7 +144,7 @@ read-part (Query list) tokens rest p = p
 read-part (Law l test) tokens rest p = p
 
 -- what is read from tokens the grammar spells
-part-read : (tokens : List TokenView) → AreTokens tokens → (p : PlainPart) (rest : List Terminal) → read_part p (terminals tokens) rest → part p (terminals tokens) rest
+part-read : (tokens : List TokenView) → AreReadable tokens → (p : PlainPart) (rest : List Terminal) → read_part p (terminals tokens) rest → part p (terminals tokens) rest
 part-read tokens all (Include file) rest (b, t, (c, w, (text, q, u))) =
     let whole : terminals tokens ≡ Sign marks.Turn ∷ Word (codes "include") ∷ Quoted text ∷ rest =
     t ∙ ap (λ (l : List Terminal). Sign marks.Turn ∷ l) (w ∙ ap (λ (l : List Terminal). Word (codes "include") ∷ l) q) in
@@ -165,7 +166,7 @@ nothing_left-is : (p found : PlainPart) (rest : List Terminal) → nothing_left 
 nothing_left-is p found [] e = (some-is found p e, refl)
 nothing_left-is p found (token ∷ rest) e = absurd cc
 
-pub statement-takes : (tokens : List TokenView) → AreTokens tokens → (p : PlainPart) → statement_at (terminals tokens) ≡ Some p → (part p ▸ sign marks.Dot) (terminals tokens) []
+pub statement-takes : (tokens : List TokenView) → AreReadable tokens → (p : PlainPart) → statement_at (terminals tokens) ≡ Some p → (part p ▸ sign marks.Dot) (terminals tokens) []
 statement-takes tokens all p e =
     let read = bind_some ((part_at ◁ sign_at marks.Dot) (terminals tokens)) nothing_left p e in
     let ends = nothing_left-is p read.0.0 read.0.1 read.2 in

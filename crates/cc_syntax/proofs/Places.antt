@@ -1,15 +1,14 @@
 -- The token at a place, and what is known of it where the tokens are those of a text.
 use Rattle.std.proofs.Common.{◌≡◌, ℕ, zero, suc, ◌+◌, ◌<◌, ◌≤◌, Bool, true, false, cond, IsTrue, List, [], ◌∷◌, length, get_or, drop, Option, Some, None, refl, subst, arith, add-one}
 use Rattle.std.specs.Option.{option_map}
-use Rattle.cc_defs.specs.declared.refusal.LimitAt.TheVariants as limits
 use Rattle.cc_defs.specs.declared.token.Mark.{Mark}
 use Rattle.cc_defs.specs.declared.token.Token.{Token}
 use Rattle.cc_defs.specs.declared.token.TokenKind.{TokenKind}
 use Rattle.cc_defs.specs.declared.token.TokenKind.TheVariants as kinds
 use Rattle.cc_defs.specs.Grammar.{Terminal, Number, Quoted, terminal, terminals}
-use Rattle.cc_defs.specs.Tokens.{TokenView, AreTokens, IsShort, kind_of, is_word, is_number, is_quoted, mark_of}
+use Rattle.cc_defs.specs.Tokens.{TokenView, kind_of, is_word, is_number, is_quoted, mark_of}
 use Rattle.cc_text.specs.Views.{token_view}
-use Rattle.cc_syntax.specs.Views.{seen}
+use Rattle.cc_syntax.specs.Views.{AreReadable, seen}
 
 seen_behind : (tokens : List Token) (at : ℕ) (other : Token) → at < length tokens
     → drop at (seen tokens) ≡ terminal (token_view (get_or tokens at other)) ∷ drop (suc at) (seen tokens)
@@ -53,28 +52,28 @@ KnownSeen (Number digits) = IsTrue (is_number digits) × (length digits ≤ 9)
 KnownSeen (Quoted text) = IsTrue (is_quoted text)
 KnownSeen terminal = Unit {0}
 
-known_of : (kind : TokenKind) (text : List ℕ) (line : ℕ) → kind_of text ≡ Some kind → IsShort (record { kind = kind; text = text; line = line })
+known_of : (kind : TokenKind) (text : List ℕ) (line : ℕ) → kind_of text ≡ Some kind → (kind ≡ kinds.Number → length text ≤ 9)
     → KnownSeen (terminal (record { kind = kind; text = text; line = line }))
 known_of kinds.Word text line e short = tt
-known_of kinds.Number text line e short = (number_text (is_word text) (is_number text) (is_quoted text) (mark_of text) e, (let f : 9 < length text → ⊥ = λ h. short limits.NumberDigits (refl, h) in omega arith))
+known_of kinds.Number text line e short = (number_text (is_word text) (is_number text) (is_quoted text) (mark_of text) e, short refl)
 known_of kinds.Quoted text line e short = quoted_text (is_word text) (is_number text) (is_quoted text) (mark_of text) e
 known_of (kinds.Mark mark) text line e short = tt
 
-known_at : (tokens : List TokenView) (at : ℕ) (one : Terminal) (rest : List Terminal) → AreTokens tokens
+known_at : (tokens : List TokenView) (at : ℕ) (one : Terminal) (rest : List Terminal) → AreReadable tokens
     → drop at (terminals tokens) ≡ one ∷ rest → KnownSeen one
 known_at [] zero one rest are e = absurd cc
 known_at [] (suc at) one rest are e = absurd cc
 known_at (token ∷ tokens) zero one rest are e =
     let same : terminal token ≡ one = cc in
-    subst KnownSeen same (known_of token.kind token.text token.line are.0.0 are.0.1)
+    subst KnownSeen same (known_of token.kind token.text token.line are.0.kind are.0.digits)
 known_at (token ∷ tokens) (suc at) one rest are e = known_at tokens at one rest are.1 e
 
-pub number-known : (tokens : List TokenView) (at : ℕ) (token : TokenView) (rest : List Terminal) → AreTokens tokens
+pub number-known : (tokens : List TokenView) (at : ℕ) (token : TokenView) (rest : List Terminal) → AreReadable tokens
     → drop at (terminals tokens) ≡ terminal token ∷ rest → token.kind ≡ kinds.Number → IsTrue (is_number token.text) × (length token.text ≤ 9)
 number-known tokens at token rest are e kind =
     subst (λ (k : TokenKind). KnownSeen (terminal (record { kind = k; text = token.text; line = token.line }))) kind (known_at tokens at (terminal token) rest are e)
 
-pub quoted-known : (tokens : List TokenView) (at : ℕ) (token : TokenView) (rest : List Terminal) → AreTokens tokens
+pub quoted-known : (tokens : List TokenView) (at : ℕ) (token : TokenView) (rest : List Terminal) → AreReadable tokens
     → drop at (terminals tokens) ≡ terminal token ∷ rest → token.kind ≡ kinds.Quoted → IsTrue (is_quoted token.text)
 quoted-known tokens at token rest are e kind =
     subst (λ (k : TokenKind). KnownSeen (terminal (record { kind = k; text = token.text; line = token.line }))) kind (known_at tokens at (terminal token) rest are e)

@@ -6,8 +6,9 @@ use Rattle.std.proofs.Math.Seq.{take-append_seam}
 use Rattle.cc_defs.specs.declared.token.Mark.{Mark}
 use Rattle.cc_defs.specs.declared.token.TokenKind.{TokenKind}
 use Rattle.cc_defs.specs.declared.token.TokenKind.TheVariants as kinds
-use Rattle.cc_defs.specs.Tokens.{TokenView, AreTokens, kind_of, is_word, is_number, is_quoted, ends_quoted, mark_of}
+use Rattle.cc_defs.specs.Tokens.{TokenView, kind_of, is_word, is_number, is_quoted, ends_quoted, mark_of}
 use Rattle.cc_defs.specs.Grammar.{Terminal, Word, Number, Quoted, Sign, Spelling, terminal_of_kind, terminal, terminals}
+use Rattle.cc_syntax.specs.Views.{AreReadable}
 use Rattle.cc_syntax.specs.Readers.{unquoted, quoted_at}
 use Rattle.cc_syntax.proofs.IsReader.{IsReader, anywhere}
 use Rattle.cc_syntax.proofs.Quotes.{quoted_shape}
@@ -48,13 +49,13 @@ is_quoted-of kinds.Quoted bytes text e f =
     subst (λ (l : List ℕ). is_quoted l ≡ true) same (by_kind (is_word bytes) (is_number bytes) (is_quoted bytes) (mark_of bytes) e)
 
 -- a quoted token among tokens is its name in quotes
-pub quoted-among : (front : List Terminal) (tokens : List TokenView) → AreTokens tokens → (text : List ℕ) (rest : List Terminal) → terminals tokens ≡ front ++ Quoted text ∷ rest
+pub quoted-among : (front : List Terminal) (tokens : List TokenView) → AreReadable tokens → (text : List ℕ) (rest : List Terminal) → terminals tokens ≡ front ++ Quoted text ∷ rest
     → text ≡ in_quotes (unquoted text)
 quoted-among [] [] all text rest e = absurd cc
 quoted-among (first ∷ front) [] all text rest e = absurd cc
 quoted-among [] (token ∷ tokens) all text rest e =
     let same : terminal token ≡ Quoted text = cc in
-    quoted-whole text (is_quoted-of token.kind token.text text all.0.0 same)
+    quoted-whole text (is_quoted-of token.kind token.text text all.0.kind same)
 quoted-among (first ∷ front) (token ∷ tokens) all text rest e =
     let same : terminals tokens ≡ front ++ Quoted text ∷ rest = cc in
     quoted-among front tokens all.1 text rest same

@@ -15,13 +15,13 @@ use Rattle.cc_defs.specs.declared.tree.Part.{Part}
 use Rattle.cc_defs.specs.Grammar.{Terminal, terminals}
 use Rattle.cc_defs.specs.Limits.{limit_number}
 use Rattle.cc_defs.specs.Statements.{token_limit, is_too_long, refusal_at, NoTree, IsParsed, IsRefused}
-use Rattle.cc_defs.specs.Tokens.{TokenView, AreTokens, first_line}
+use Rattle.cc_defs.specs.Tokens.{TokenView, first_line}
 use Rattle.cc_defs.specs.Trees.{PlainPart, PlainStatement, plain_part, plain_statement}
 use Rattle.cc_syntax.specs.declared.stop.Stop.{Stop}
 use Rattle.cc_syntax.specs.declared.stop.Stop.TheVariants as stops
 use Rattle.cc_syntax.specs.Parsing.{part_at, nothing_left, statement_at, HasRefused, TreeOrRefusal}
 use Rattle.cc_syntax.specs.Readers.{given, sign_at}
-use Rattle.cc_syntax.specs.Views.{seen}
+use Rattle.cc_syntax.specs.Views.{AreReadable, seen}
 use Rattle.cc_text.specs.Views.{token_views}
 use Rattle.cc_syntax.proofs.Parsing.{statement-takes, statement-again}
 
@@ -57,7 +57,7 @@ line_of : (tokens : List Token) (other : Token) → 0 < length tokens → first_
 line_of [] other some = absurd (omega (arith, some))
 line_of (token ∷ tokens) other some = refl
 
-pub is_parsed : (tokens : List Token) (part : Box Part) (other : Token) → 0 < length tokens → AreTokens (token_views tokens) →
+pub is_parsed : (tokens : List Token) (part : Box Part) (other : Token) → 0 < length tokens → AreReadable (token_views tokens) →
     IsFalse (is_too_long (seen tokens)) → statement_at (seen tokens) ≡ Some (plain_part part.value) →
     IsParsed (token_views tokens) (plain_statement record { part = part; line = (slice_index_or tokens 0 other).line })
 is_parsed tokens part other some are short found = record {
@@ -79,7 +79,7 @@ is_refused tokens file fault short nothing is_fault =
 
 -- ---- each list of tokens has a tree, or is refused
 
-read-or-refused : (file : ℕ) (tokens : List TokenView) → AreTokens tokens → IsFalse (is_too_long (terminals tokens)) →
+read-or-refused : (file : ℕ) (tokens : List TokenView) → AreReadable tokens → IsFalse (is_too_long (terminals tokens)) →
     (read : Option PlainPart) → statement_at (terminals tokens) ≡ read →
     ((tree : PlainStatement) × IsParsed tokens tree) ⊎ ((refusal : Refusal) × IsRefused file tokens refusal)
 read-or-refused file tokens are short (Some p) found =
@@ -87,7 +87,7 @@ read-or-refused file tokens are short (Some p) found =
 read-or-refused file tokens are short None nothing =
     inr (refusal_at 3 file None tokens, inr (short, nothing_spells tokens nothing, refl))
 
-short-or-refused : (file : ℕ) (tokens : List TokenView) → AreTokens tokens → (long : Bool) → is_too_long (terminals tokens) ≡ long →
+short-or-refused : (file : ℕ) (tokens : List TokenView) → AreReadable tokens → (long : Bool) → is_too_long (terminals tokens) ≡ long →
     ((tree : PlainStatement) × IsParsed tokens tree) ⊎ ((refusal : Refusal) × IsRefused file tokens refusal)
 short-or-refused file tokens are true long =
     inr (refusal_at 14 file (Some (token_limit (terminals tokens))) tokens, inl (long, refl))

@@ -4,10 +4,11 @@ use Rattle.cc_defs.specs.declared.refusal.Fault.{Fault}
 use Rattle.cc_defs.specs.declared.refusal.Fault.TheVariants as faults
 use Rattle.cc_defs.specs.declared.token.Mark.TheVariants as marks
 use Rattle.cc_defs.specs.declared.refusal.Refusal.{Refusal}
-use Rattle.cc_defs.specs.Tokens.{TokenView, AreTokens}
+use Rattle.cc_defs.specs.Tokens.{TokenView}
 use Rattle.cc_defs.specs.Trees.{PlainPart, PlainStatement, Sorts, Objects, Variables, Constants, Query, Include}
 use Rattle.cc_defs.specs.Grammar.{Terminal, Spells}
 use Rattle.cc_defs.specs.Statements.{IsRefused, IsParsed}
+use Rattle.cc_syntax.specs.Views.{AreReadable}
 use Rattle.cc_syntax.specs.Readers.{Reader, given, ◌>>=◌, quoted_at, sign_at, word_at, listed_at, ◌◁◌}
 use Rattle.cc_syntax.specs.Declarations.{sort_item_at, obj_item_at, list_item_at, const_item_at}
 use Rattle.cc_syntax.specs.Queries.{query_item_at}
@@ -55,5 +56,5 @@ OneTree = (tokens : List TokenView) (tree other : PlainStatement) → Spells tre
 
 -- each list of tokens has a tree, or is refused
 abbrev pub TreeOrRefusal : Type 0
-TreeOrRefusal = (file : ℕ) (tokens : List TokenView) → AreTokens tokens →
+TreeOrRefusal = (file : ℕ) (tokens : List TokenView) → AreReadable tokens →
     ((tree : PlainStatement) × IsParsed tokens tree) ⊎ ((refusal : Refusal) × IsRefused file tokens refusal)

@@ -1,7 +1,11 @@
 -- What a reader answers, in terms of what the grammar sees.
-use Rattle.std.specs.Prelude.{◌≡◌, ℕ, List, [], ◌∷◌, drop, Option, Some, None, Result, Ok, Err}
+use Rattle.std.specs.List.{AllByRecursion}
+use Rattle.std.specs.Prelude.{◌≡◌, ℕ, ◌≤◌, List, [], ◌∷◌, drop, length, Option, Some, None, Result, Ok, Err}
 use Rattle.cc_defs.specs.declared.token.Token.{Token}
+use Rattle.cc_defs.specs.declared.token.TokenKind.{TokenKind}
+use Rattle.cc_defs.specs.declared.token.TokenKind.TheVariants as kinds
 use Rattle.cc_defs.specs.Grammar.{Terminal, terminal, terminals}
+use Rattle.cc_defs.specs.Tokens.{TokenView, kind_of}
 use Rattle.cc_text.specs.Views.{token_view, token_views}
 use Rattle.cc_syntax.specs.declared.stop.Stop.{Stop}
 use Rattle.cc_syntax.specs.declared.stop.Stop.TheVariants as stops
@@ -9,6 +13,15 @@ use Rattle.cc_syntax.specs.declared.stop.Stop.TheVariants as stops
 -- what the grammar sees of the tokens
 abbrev pub seen : List Token → List Terminal
 seen tokens = terminals (token_views tokens)
+
+-- the text of a token is of its kind, and a number has at most nine digits
+pub record IsReadable (token : TokenView) : Type 0 where
+  pub kind : kind_of token.text ≡ Some token.kind
+  pub digits : token.kind ≡ kinds.Number → length token.text ≤ 9
+
+-- what is asked of tokens that are read
+abbrev pub AreReadable : List TokenView → Type 0
+AreReadable tokens = AllByRecursion IsReadable tokens
 
 -- the token at the place, if there is one, and the place behind it
 abbrev pub Stands : List Token → ℕ → Option (Token × ℕ) → Type 0

@@ -3,14 +3,13 @@ ghost use Rattle.std.specs.Prelude.{◌≡◌, Err, drop, codes, IfOk, List, Non
 ghost use Rattle.std.specs.Option.{option_map};
 ghost use Rattle.std.specs.Result.{MatchResult};
 ghost use Rattle.cc_defs.specs.declared.token.Token as token;
-ghost use Rattle.cc_defs.specs.Tokens.{AreTokens};
 ghost use Rattle.cc_defs.specs.Trees.{PlainTree, PlainLaw, boxed_tree, plain_law, plain_part, plain_term};
 ghost use Rattle.cc_defs.specs.Trees as trees;
 ghost use Rattle.cc_syntax.specs.Formulas.{formula_at};
 ghost use Rattle.cc_syntax.specs.Laws.{caused_at, effect_at, worded_at, acted_at, acting_at, opens_formula as opening, law_at, tested_law_at};
 ghost use Rattle.cc_syntax.specs.Readers.{given, word_at, optional_at};
 ghost use Rattle.cc_syntax.specs.Terms.{term_at};
-ghost use Rattle.cc_syntax.specs.Views.{seen, Reads, Passes};
+ghost use Rattle.cc_syntax.specs.Views.{AreReadable, seen, Reads, Passes};
 ghost use Rattle.cc_syntax.specs.declared.stop.Stop.TheVariants as stops;
 ghost use Rattle.cc_text.specs.Views.{token_views};
 
@@ -47,7 +46,7 @@ fn optional<'s>(
     at: usize,
     text: &str,
 ) -> Result<(Option<Box<Tree<'s>>>, usize), Stop>
-    requires { AreTokens (token_views tokens.now) }
+    requires { AreReadable (token_views tokens.now) }
     ensures { Reads (λ read. option_map boxed_tree read) tokens.now result
         (optional_at formula_at text.now (drop at (seen tokens.now))) }
 {
@@ -65,7 +64,7 @@ fn optional_behind<'s, K: Drop>(
     read: Result<(K, usize), Stop>,
     text: &str,
 ) -> Result<((K, Option<Box<Tree<'s>>>), usize), Stop>
-    requires { AreTokens (token_views tokens.now) }
+    requires { AreReadable (token_views tokens.now) }
     ensures { MatchResult read (λ r. IfOk result (λ both. both.0.0 ≡ r.0)
         × Reads (λ both. option_map boxed_tree both.1) tokens.now result (optional_at
         formula_at text.now (drop r.1 (seen tokens.now)))) (λ stop. result ≡ Err stop) }
@@ -79,7 +78,7 @@ fn optional_behind<'s, K: Drop>(
 /// `F if G`, for any law that has it behind its word.
 #[tactic(auto, unfolding(crate::specs::Laws::effect_at))]
 fn effect<'s>(alloc: Global, tokens: &[Token<'s>], at: usize) -> Result<(Effect<'s>, usize), Stop>
-    requires { AreTokens (token_views tokens.now) }
+    requires { AreReadable (token_views tokens.now) }
     ensures { (make : PlainTree → Option PlainTree → PlainLaw) →
         Reads (λ read. make (boxed_tree read.0) (option_map boxed_tree read.1))
         tokens.now result (effect_at make (drop at (seen tokens.now))) }
@@ -90,7 +89,7 @@ fn effect<'s>(alloc: Global, tokens: &[Token<'s>], at: usize) -> Result<(Effect<
 /// `F if G after H`, for any law that has it behind its word.
 #[tactic(auto, unfolding(crate::specs::Laws::caused_at))]
 fn caused<'s>(alloc: Global, tokens: &[Token<'s>], at: usize) -> Result<(Caused<'s>, usize), Stop>
-    requires { AreTokens (token_views tokens.now) }
+    requires { AreReadable (token_views tokens.now) }
     ensures { (make : PlainTree → Option PlainTree → Option PlainTree → PlainLaw) → Reads (λ read.
         make (boxed_tree read.0.0) (option_map boxed_tree read.0.1) (option_map boxed_tree read.1))
         tokens.now result (caused_at make (drop at (seen tokens.now))) }
@@ -133,7 +132,7 @@ fn inertial<'s>(
     tokens: &[Token<'s>],
     at: usize,
 ) -> Result<(TermTree<'s>, usize), Stop>
-    requires { AreTokens (token_views tokens.now) }
+    requires { AreReadable (token_views tokens.now) }
     ensures { Reads plain_term tokens.now result
         (given (word_at (codes "inertial") (drop at (seen tokens.now))) None term_at) }
 {
@@ -148,7 +147,7 @@ fn worded<'s>(
     tokens: &[Token<'s>],
     at: usize,
 ) -> Result<(Box<LawTree<'s>>, usize), Stop>
-    requires { AreTokens (token_views tokens.now) }
+    requires { AreReadable (token_views tokens.now) }
     ensures { Reads (λ law. plain_law law.value) tokens.now result (worded_at (drop at (seen tokens.now))) }
 {
     if let Ok(next) = word(tokens, at, "caused") {
@@ -206,7 +205,7 @@ fn acted<'s>(
     at: usize,
     action: Box<Tree<'s>>,
 ) -> Result<(Box<LawTree<'s>>, usize), Stop>
-    requires { AreTokens (token_views tokens.now) }
+    requires { AreReadable (token_views tokens.now) }
     ensures { Reads (λ law. plain_law law.value) tokens.now result
         (acted_at (boxed_tree action.entry) (drop at (seen tokens.now))) }
 {
@@ -228,7 +227,7 @@ fn acting<'s>(
     tokens: &[Token<'s>],
     at: usize,
 ) -> Result<(Box<LawTree<'s>>, usize), Stop>
-    requires { AreTokens (token_views tokens.now) }
+    requires { AreReadable (token_views tokens.now) }
     ensures { Reads (λ law. plain_law law.value) tokens.now result (acting_at (drop at (seen tokens.now))) }
 {
     match formula(alloc, tokens, at) {
@@ -258,7 +257,7 @@ fn law<'s>(
     tokens: &[Token<'s>],
     at: usize,
 ) -> Result<(Box<LawTree<'s>>, usize), Stop>
-    requires { AreTokens (token_views tokens.now) }
+    requires { AreReadable (token_views tokens.now) }
     ensures { Reads (λ law. plain_law law.value) tokens.now result (law_at (drop at (seen tokens.now))) }
 {
     if opens_formula(tokens, at) {
@@ -282,7 +281,7 @@ fn no_concurrency<'s>(alloc: Global, next: usize) -> Result<(Tested<'s>, usize),
 /// A law and its test; `noconcurrency` has none.
 #[tactic(auto, unfolding(crate::specs::Laws::tested_law_at))]
 fn tested<'s>(alloc: Global, tokens: &[Token<'s>], at: usize) -> Result<(Tested<'s>, usize), Stop>
-    requires { AreTokens (token_views tokens.now) }
+    requires { AreReadable (token_views tokens.now) }
     ensures { Reads
         (λ read. trees.Law (plain_law read.0.value) (option_map boxed_tree read.1))
         tokens.now result (tested_law_at (drop at (seen tokens.now))) }
@@ -308,7 +307,7 @@ pub(crate) fn tested_law<'s>(
     tokens: &[Token<'s>],
     at: usize,
 ) -> Result<(Box<Part<'s>>, usize), Stop>
-    requires { AreTokens (token_views tokens.now) }
+    requires { AreReadable (token_views tokens.now) }
     ensures { Reads (λ part. plain_part part.value) tokens.now result
         (tested_law_at (drop at (seen tokens.now))) }
 {

@@ -4,11 +4,10 @@ ghost use Rattle.std.specs.Result.{MatchResult};
 ghost use Rattle.cc_syntax.specs.declared.stop.Stop.TheVariants as stops;
 ghost use Rattle.std.specs.Option.{option_map};
 ghost use Rattle.cc_defs.specs.declared.token.Mark.TheVariants as marks;
-ghost use Rattle.cc_defs.specs.Tokens.{AreTokens};
 ghost use Rattle.cc_defs.specs.Trees.{PlainShape, PlainSortItem, PlainMember, PlainObjItem, PlainListItem, PlainConstItem, plain_shape, plain_sort_item, plain_member, plain_obj_item, plain_list_item, plain_kind, plain_const_item};
 ghost use Rattle.cc_syntax.specs.Declarations.{names_at, sort_item_at, numbers_at, member_at, obj_item_at, list_item_at, sorts_at, shape_at, kind_word_at, sort_at, attribute_at, kind_at, const_item_at};
 ghost use Rattle.cc_syntax.specs.Readers.{name_at, sign_at, listed_at, parenthesized_at, ◌▷◌};
-ghost use Rattle.cc_syntax.specs.Views.{seen, Reads};
+ghost use Rattle.cc_syntax.specs.Views.{AreReadable, seen, Reads};
 ghost use Rattle.cc_text.specs.Views.{token_views};
 
 use crate::items::{Item, listed};
@@ -91,7 +90,7 @@ impl<'s> Item<'s> for SortItem<'s> {
 
 /// The numbers from one that was read to another, or that one alone.
 fn numbers<'s>(tokens: &[Token<'s>], at: usize, low: u32) -> Result<(Member<'s>, usize), Stop>
-    requires { AreTokens (token_views tokens.now) }
+    requires { AreReadable (token_views tokens.now) }
     ensures { Reads plain_member tokens.now result (numbers_at low (drop at (seen tokens.now))) }
 {
     let Ok(next) = sign(tokens, at, Mark::DotDot) else {
@@ -109,7 +108,7 @@ impl<'s> Item<'s> for Member<'s> {
 
     ghost item_at = { member_at };
 
-    ghost IsReadOf = { λ tokens. AreTokens (token_views tokens) };
+    ghost IsReadOf = { λ tokens. AreReadable (token_views tokens) };
 
     #[tactic(auto, unfolding(crate::specs::Declarations::member_at))]
     fn read(_: Global, tokens: &[Token<'s>], at: usize) -> Result<(Self, usize), Stop> {
@@ -130,7 +129,7 @@ fn members<'s>(
     tokens: &[Token<'s>],
     at: usize,
 ) -> Result<(Vec<Member<'s>>, usize), Stop>
-    requires { AreTokens (token_views tokens.now) }
+    requires { AreReadable (token_views tokens.now) }
     ensures { Reads (λ members. map plain_member members.items) tokens.now result
         (listed_at member_at marks.Comma (drop at (seen tokens.now))) }
 {
@@ -158,7 +157,7 @@ impl<'s> Item<'s> for ObjItem<'s> {
 
     ghost item_at = { obj_item_at };
 
-    ghost IsReadOf = { λ tokens. AreTokens (token_views tokens) };
+    ghost IsReadOf = { λ tokens. AreReadable (token_views tokens) };
 
     #[tactic(auto, unfolding(crate::specs::Declarations::obj_item_at))]
     fn read(alloc: Global, tokens: &[Token<'s>], at: usize) -> Result<(Self, usize), Stop> {
@@ -354,7 +353,7 @@ pub(crate) fn obj_items<'s>(
     tokens: &[Token<'s>],
     at: usize,
 ) -> Result<(Vec<ObjItem<'s>>, usize), Stop>
-    requires { AreTokens (token_views tokens.now) }
+    requires { AreReadable (token_views tokens.now) }
     ensures { Reads (λ items. map plain_obj_item items.items) tokens.now result
         (listed_at obj_item_at marks.Semicolon (drop at (seen tokens.now))) }
 {

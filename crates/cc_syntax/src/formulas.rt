@@ -5,7 +5,6 @@ ghost use Rattle.cc_defs.specs.declared.token.Token as token;
 ghost use Rattle.cc_syntax.specs.declared.formulas.Turn.TheVariants as turns;
 ghost use Rattle.cc_syntax.specs.declared.stop.Stop.TheVariants as stops;
 ghost use Rattle.cc_syntax.specs.declared.frames.Frame.{Frame};
-ghost use Rattle.cc_defs.specs.Tokens.{AreTokens};
 ghost use Rattle.cc_defs.specs.Trees.{Summed, plain_piece, plain_sum, plain_term, plain_tree};
 ghost use Rattle.cc_defs.specs.declared.token.Mark.TheVariants as marks;
 ghost use Rattle.cc_defs.specs.Trees as trees;
@@ -14,16 +13,17 @@ ghost use Rattle.cc_syntax.specs.Operators.{compared_as};
 ghost use Rattle.cc_syntax.specs.Readers.{name_at, sign_at, ◌◁◌};
 ghost use Rattle.cc_syntax.specs.Terms.{plain_addend, addends_of, sum_at};
 ghost use Rattle.cc_syntax.specs.Turns.{Turns, plain_turn, turn_of};
-ghost use Rattle.cc_syntax.specs.Views.{seen, Reads};
+ghost use Rattle.cc_syntax.specs.Views.{AreReadable, seen, Reads};
 ghost use Rattle.cc_text.specs.Views.{token_views};
 
 use crate::frames::{Frame, Frames, Opening, close};
 use crate::operators::{Comparing, Operator, boxed, next_comparison, next_operator};
-use crate::reading::{both, boxed_read, made, placed, put_last};
+use crate::reading::{both, boxed_read, made, placed};
 use crate::stop::Stop;
 use crate::terms::sum;
 use crate::tokens::{name, sign, sign_after};
 use cc_defs::{Addend, Mark, Piece, SumTree, TermTree, Token, Tree};
+use smallvec::SmallVec;
 use std::alloc::{AllocError, Global};
 
 /// The strength of a whole formula: no operator's is greater.
@@ -108,7 +108,7 @@ fn compared<'s>(
     comparing: Comparing,
     left: SumTree<'s>,
 ) -> Result<(Tree<'s>, usize), Stop>
-    requires { AreTokens (token_views tokens.now) }
+    requires { AreReadable (token_views tokens.now) }
     ensures { Reads plain_tree tokens.now result
         (side_at (compared_as comparing) (plain_sum left.entry) (drop at (seen tokens.now))) }
 {
@@ -122,7 +122,7 @@ fn compared<'s>(
 /// Two sums with the sign of a comparison between them, or a term alone.
 #[tactic(auto, unfolding(crate::specs::Formulas::atom_at))]
 fn atom<'s>(alloc: Global, tokens: &[Token<'s>], at: usize) -> Result<(Tree<'s>, usize), Stop>
-    requires { AreTokens (token_views tokens.now) }
+    requires { AreReadable (token_views tokens.now) }
     ensures { Reads plain_tree tokens.now result (atom_at (drop at (seen tokens.now))) }
 {
     let (left, next) = sum(alloc, tokens, at)?;
@@ -137,7 +137,7 @@ fn opened<'s>(frames: &mut Frames<'s>, frame: Frame<'s>, next: usize) -> Result<
     ensures { (all : List token.Token) → Turns all frames.new.items result
         (Some (plain_frame frame.entry ∷ stack frames.old.items, Wants (drop next (seen all)))) }
 {
-    put_last(frames, frame)?;
+    frames.push(frame)?;
     Ok(Turn::Wants(next))
 }
 
@@ -159,7 +159,7 @@ fn begin<'s>(
     frames: &mut Frames<'s>,
     at: usize,
 ) -> Result<Turn<'s>, Stop>
-    requires { AreTokens (token_views tokens.now) }
+    requires { AreReadable (token_views tokens.now) }
     ensures { Turns tokens.now frames.new.items result
         (begun (stack frames.old.items) (drop at (seen tokens.now))) }
 {
@@ -255,7 +255,7 @@ fn turned<'s>(
     frames: &mut Frames<'s>,
     turn: Turn<'s>,
 ) -> Result<Turn<'s>, Stop>
-    requires { AreTokens (token_views tokens.now) }
+    requires { AreReadable (token_views tokens.now) }
     ensures { Turns tokens.now frames.new.items result
         (turn_of (stack frames.old.items, plain_turn tokens.now turn.entry)) }
 {
@@ -274,7 +274,7 @@ fn run<'s>(
     frames: &mut Frames<'s>,
     at: usize,
 ) -> Result<(Box<Tree<'s>>, usize), Stop>
-    requires { AreTokens (token_views tokens.now) }
+    requires { AreReadable (token_views tokens.now) }
     ensures { Reads (λ tree. plain_tree tree.value) tokens.now result
         (run_from (suc (length (drop at (seen tokens.now))))
         (stack frames.old.items, Wants (drop at (seen tokens.now)))) }
@@ -300,10 +300,10 @@ pub(crate) fn formula<'s>(
     tokens: &[Token<'s>],
     at: usize,
 ) -> Result<(Box<Tree<'s>>, usize), Stop>
-    requires { AreTokens (token_views tokens.now) }
+    requires { AreReadable (token_views tokens.now) }
     ensures { Reads (λ tree. plain_tree tree.value) tokens.now result
         (formula_at (drop at (seen tokens.now))) }
 {
-    let mut frames = Vec::new(alloc);
+    let mut frames = SmallVec::new(alloc);
     run(alloc, tokens, &mut frames, at)
 }

@@ -6,6 +6,7 @@ ghost use Rattle.cc_syntax.specs.Turns.{Popped};
 
 use crate::operators::{Operator, boxed};
 use cc_defs::{Mark, Tree};
+use smallvec::SmallVec;
 use std::alloc::{AllocError, Global};
 
 /// A sign or a bracket before an operand.
@@ -28,8 +29,15 @@ pub(crate) enum Frame<'s> {
     Left(Operator, Box<Tree<'s>>),
 }
 
-/// What is open, the innermost last.
-pub(crate) type Frames<'s> = Vec<Frame<'s>>;
+/// The frame that stands in the free places of a list.
+impl<'s> Default for Frame<'s> {
+    fn default() -> Frame<'s> {
+        Frame::Opened(Opening::Not)
+    }
+}
+
+/// What is open, the innermost last. Few formulas are nested deeper than fits without an allocation.
+pub(crate) type Frames<'s> = SmallVec<Frame<'s>, 8>;
 
 impl<'s> Frame<'s> {
     /// The frame with its operand.

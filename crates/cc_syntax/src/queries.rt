@@ -1,12 +1,11 @@
 //! Readers of the parts of a query.
 ghost use Rattle.std.specs.Prelude.{◌≡◌, drop, map};
 ghost use Rattle.cc_defs.specs.declared.token.Mark.TheVariants as marks;
-ghost use Rattle.cc_defs.specs.Tokens.{AreTokens};
 ghost use Rattle.cc_defs.specs.Trees.{PlainQueryItem, plain_tree, plain_query_item};
 ghost use Rattle.cc_syntax.specs.Formulas.{formula_at};
 ghost use Rattle.cc_syntax.specs.Queries.{condition_at, step_at, stepped_at, range_at, last_at, labelled_at, query_item_at};
 ghost use Rattle.cc_syntax.specs.Readers.{listed_at};
-ghost use Rattle.cc_syntax.specs.Views.{seen, Reads};
+ghost use Rattle.cc_syntax.specs.Views.{AreReadable, seen, Reads};
 ghost use Rattle.cc_text.specs.Views.{token_views};
 
 use crate::formulas::formula;
@@ -24,7 +23,7 @@ fn formulas<'s>(
     tokens: &[Token<'s>],
     at: usize,
 ) -> Result<(Vec<Tree<'s>>, usize), Stop>
-    requires { AreTokens (token_views tokens.now) }
+    requires { AreReadable (token_views tokens.now) }
     ensures { Reads (λ formulas. map plain_tree formulas.items) tokens.now result
         (listed_at formula_at marks.Comma (drop at (seen tokens.now))) }
 {
@@ -49,7 +48,7 @@ fn condition<'s>(
     claim: bool,
     step: At,
 ) -> Result<(QueryItem<'s>, usize), Stop>
-    requires { AreTokens (token_views tokens.now) }
+    requires { AreReadable (token_views tokens.now) }
     ensures { Reads plain_query_item tokens.now result
         (condition_at claim step (drop at (seen tokens.now))) }
 {
@@ -66,7 +65,7 @@ fn condition<'s>(
 
 /// A step: its number, or the last one.
 fn step(tokens: &[Token], at: usize) -> Result<(At, usize), Stop>
-    requires { AreTokens (token_views tokens.now) }
+    requires { AreReadable (token_views tokens.now) }
     ensures { Reads (λ step. step) tokens.now result (step_at (drop at (seen tokens.now))) }
 {
     if let Ok(next) = word(tokens, at, "maxstep") {
@@ -84,7 +83,7 @@ fn stepped<'s>(
     at: usize,
     claim: bool,
 ) -> Result<(QueryItem<'s>, usize), Stop>
-    requires { AreTokens (token_views tokens.now) }
+    requires { AreReadable (token_views tokens.now) }
     ensures { Reads plain_query_item tokens.now result
         (stepped_at claim (drop at (seen tokens.now))) }
 {
@@ -95,7 +94,7 @@ fn stepped<'s>(
 /// The least and the greatest horizon: a number for both, or two.
 #[tactic(auto, unfolding(crate::specs::Queries::range_at))]
 fn range<'s>(tokens: &[Token<'s>], at: usize) -> Result<(QueryItem<'s>, usize), Stop>
-    requires { AreTokens (token_views tokens.now) }
+    requires { AreReadable (token_views tokens.now) }
     ensures { Reads plain_query_item tokens.now result (range_at (drop at (seen tokens.now))) }
 {
     let (lo, next) = numeral(tokens, at)?;
@@ -108,7 +107,7 @@ fn range<'s>(tokens: &[Token<'s>], at: usize) -> Result<(QueryItem<'s>, usize), 
 
 /// Behind `maxstep`: the horizons, or what holds at the last step.
 fn last<'s>(alloc: Global, tokens: &[Token<'s>], at: usize) -> Result<(QueryItem<'s>, usize), Stop>
-    requires { AreTokens (token_views tokens.now) }
+    requires { AreReadable (token_views tokens.now) }
     ensures { Reads plain_query_item tokens.now result (last_at (drop at (seen tokens.now))) }
 {
     if let Ok(next) = sign(tokens, at, Mark::DoubleColon) {
@@ -134,7 +133,7 @@ impl<'s> Item<'s> for QueryItem<'s> {
 
     ghost item_at = { query_item_at };
 
-    ghost IsReadOf = { λ tokens. AreTokens (token_views tokens) };
+    ghost IsReadOf = { λ tokens. AreReadable (token_views tokens) };
 
     #[tactic(auto, unfolding(crate::specs::Queries::query_item_at))]
     fn read(alloc: Global, tokens: &[Token<'s>], at: usize) -> Result<(Self, usize), Stop> {
@@ -158,7 +157,7 @@ pub(crate) fn query_items<'s>(
     tokens: &[Token<'s>],
     at: usize,
 ) -> Result<(Vec<QueryItem<'s>>, usize), Stop>
-    requires { AreTokens (token_views tokens.now) }
+    requires { AreReadable (token_views tokens.now) }
     ensures { Reads (λ items. map plain_query_item items.items) tokens.now result
         (listed_at query_item_at marks.Semicolon (drop at (seen tokens.now))) }
 {

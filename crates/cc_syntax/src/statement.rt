@@ -6,12 +6,11 @@ ghost use Rattle.cc_defs.specs.declared.refusal.Fault.TheVariants as faults;
 ghost use Rattle.cc_defs.specs.declared.token.Mark.TheVariants as marks;
 ghost use Rattle.cc_defs.specs.Grammar.{same_text, Spells};
 ghost use Rattle.cc_defs.specs.Statements.{IsParsed, begins_directive, is_too_long, token_limit as limit_of, refusal_at};
-ghost use Rattle.cc_defs.specs.Tokens.{AreTokens};
 ghost use Rattle.cc_defs.specs.Trees.{PlainPart, PlainStatement, plain_part, plain_statement, plain_sort_item, plain_obj_item, plain_list_item, plain_const_item, plain_query_item};
 ghost use Rattle.cc_defs.specs.Trees as trees;
 ghost use Rattle.cc_syntax.specs.Parsing.{HasRefused, directive_at, part_at, nothing_left, statement_at};
 ghost use Rattle.cc_syntax.specs.Readers.{given, sign_at, word_at, quoted_at};
-ghost use Rattle.cc_syntax.specs.Views.{seen, Reads};
+ghost use Rattle.cc_syntax.specs.Views.{AreReadable, seen, Reads};
 ghost use Rattle.cc_syntax.specs.declared.stop.Stop.TheVariants as stops;
 ghost use Rattle.cc_text.specs.Views.{token_views};
 
@@ -64,7 +63,7 @@ fn query_part<'s>(items: Vec<QueryItem<'s>>) -> Part<'s>
 
 /// `include`, and the name of the file behind it.
 fn include<'s>(tokens: &[Token<'s>], at: usize) -> Result<(&'s str, usize), Stop>
-    requires { AreTokens (token_views tokens.now) }
+    requires { AreReadable (token_views tokens.now) }
     ensures { Reads (λ text. text.now) tokens.now result
         (given (word_at (codes "include") (drop at (seen tokens.now))) None quoted_at) }
 {
@@ -79,7 +78,7 @@ fn directive<'s>(
     tokens: &[Token<'s>],
     at: usize,
 ) -> Result<(Box<Part<'s>>, usize), Stop>
-    requires { AreTokens (token_views tokens.now) }
+    requires { AreReadable (token_views tokens.now) }
     ensures { Reads (λ part. plain_part part.value) tokens.now result (directive_at (drop at (seen tokens.now))) }
 {
     if let Ok(next) = word(tokens, at, "sorts") {
@@ -103,7 +102,7 @@ fn directive<'s>(
 /// What a statement says, before its dot.
 #[tactic(auto, unfolding(crate::specs::Parsing::part_at))]
 fn part<'s>(alloc: Global, tokens: &[Token<'s>], at: usize) -> Result<(Box<Part<'s>>, usize), Stop>
-    requires { AreTokens (token_views tokens.now) }
+    requires { AreReadable (token_views tokens.now) }
     ensures { Reads (λ part. plain_part part.value) tokens.now result (part_at (drop at (seen tokens.now))) }
 {
     if let Ok(next) = sign(tokens, at, Mark::Turn) {
@@ -125,7 +124,7 @@ fn ends(tokens: &[Token], at: usize) -> bool
 
 /// What a whole statement says.
 fn whole<'s>(alloc: Global, tokens: &[Token<'s>]) -> Result<Box<Part<'s>>, Stop>
-    requires { AreTokens (token_views tokens.now) }
+    requires { AreReadable (token_views tokens.now) }
     ensures read { IfOk result (λ part.
         statement_at (seen tokens.now) ≡ Some (plain_part part.value)) }
     ensures none { result ≡ Err stops.NoTree → statement_at (seen tokens.now) ≡ None }
@@ -181,7 +180,7 @@ fn too_long(limit: LimitAt, file: u32, tokens: &[Token]) -> Fault
 /// What a statement says, or why it is refused. It is in a box, since each exit with a large value is dear to prove.
 fn said<'s>(alloc: Global, file: u32, tokens: &[Token<'s>]) -> Result<Box<Part<'s>>, Fault>
     requires some { 0 < length tokens.now }
-    requires are { AreTokens (token_views tokens.now) }
+    requires are { AreReadable (token_views tokens.now) }
     ensures read { IfOk result (λ part. IsFalse (is_too_long (seen tokens.now))
         × (statement_at (seen tokens.now) ≡ Some (plain_part part.value))) }
     ensures refused { IfErr result (HasRefused file (token_views tokens.now)) }
@@ -202,7 +201,7 @@ fn said<'s>(alloc: Global, file: u32, tokens: &[Token<'s>]) -> Result<Box<Part<'
 /// statement tokens), and what no tree spells (3). `file` is the number of the file in refusals.
 pub fn parse<'s>(alloc: Global, file: u32, tokens: &[Token<'s>]) -> Result<Statement<'s>, Fault>
     requires some { 0 < length tokens.now }
-    requires are { AreTokens (token_views tokens.now) }
+    requires are { AreReadable (token_views tokens.now) }
     ensures parsed { IfOk result (λ tree.
         IsParsed (token_views tokens.now) (plain_statement tree)) }
     ensures one { (other : PlainStatement) →

@@ -1,9 +1,8 @@
 //! Readers of terms and sums.
 ghost use Rattle.std.specs.Prelude.{◌≡◌, drop, map, option_map};
-ghost use Rattle.cc_defs.specs.Tokens.{AreTokens};
 ghost use Rattle.cc_defs.specs.Trees.{Summed, plain_piece, plain_sum, plain_term};
 ghost use Rattle.cc_syntax.specs.Terms.{plain_addend, addends_of, call_at, leaf_at, additive_at, piece_by, addends_by, sum_by, term_from, term_at, sum_at};
-ghost use Rattle.cc_syntax.specs.Views.{seen, Reads};
+ghost use Rattle.cc_syntax.specs.Views.{AreReadable, seen, Reads};
 ghost use Rattle.cc_text.specs.Views.{token_views};
 
 use crate::reading::put_last;
@@ -61,7 +60,7 @@ fn piece_within<'s>(
     at: usize,
     steps: usize,
 ) -> Result<(Piece<'s>, usize), Stop>
-    requires { AreTokens (token_views tokens.now) }
+    requires { AreReadable (token_views tokens.now) }
     ensures { Reads plain_piece tokens.now result
         (piece_by (term_from steps) (drop at (seen tokens.now))) }
 {
@@ -83,7 +82,7 @@ fn addends_within<'s>(
     at: usize,
     steps: usize,
 ) -> Result<(Vec<Addend<'s>>, usize), Stop>
-    requires { AreTokens (token_views tokens.now) }
+    requires { AreReadable (token_views tokens.now) }
     ensures { Reads (λ addends. map plain_addend addends.items) tokens.now result
         (addends_by (term_from steps) (drop at (seen tokens.now))) }
 {
@@ -109,7 +108,7 @@ fn sum_within<'s>(
     at: usize,
     steps: usize,
 ) -> Result<(SumTree<'s>, usize), Stop>
-    requires { AreTokens (token_views tokens.now) }
+    requires { AreReadable (token_views tokens.now) }
     ensures { Reads plain_sum tokens.now result
         (sum_by (term_from steps) (drop at (seen tokens.now))) }
 {
@@ -128,7 +127,7 @@ fn term_within<'s>(
     at: usize,
     steps: usize,
 ) -> Result<(TermTree<'s>, usize), Stop>
-    requires { AreTokens (token_views tokens.now) }
+    requires { AreReadable (token_views tokens.now) }
     ensures { Reads plain_term tokens.now result (term_from steps (drop at (seen tokens.now))) }
 {
     if steps == 0 {
@@ -160,7 +159,7 @@ pub(crate) fn term<'s>(
     tokens: &[Token<'s>],
     at: usize,
 ) -> Result<(TermTree<'s>, usize), Stop>
-    requires { AreTokens (token_views tokens.now) }
+    requires { AreReadable (token_views tokens.now) }
     ensures { Reads plain_term tokens.now result (term_at (drop at (seen tokens.now))) }
 {
     term_within(alloc, tokens, at, tokens.len().saturating_sub(at))
@@ -172,7 +171,7 @@ pub(crate) fn sum<'s>(
     tokens: &[Token<'s>],
     at: usize,
 ) -> Result<(SumTree<'s>, usize), Stop>
-    requires { AreTokens (token_views tokens.now) }
+    requires { AreReadable (token_views tokens.now) }
     ensures { Reads plain_sum tokens.now result (sum_at (drop at (seen tokens.now))) }
 {
     sum_within(alloc, tokens, at, tokens.len().saturating_sub(at))

@@ -2,11 +2,11 @@
 //! what it read.
 ghost use Rattle.std.specs.Prelude.{◌≡◌, IsTrue, drop, Err, IfOk};
 ghost use Rattle.std.specs.Result.{MatchResult};
-ghost use Rattle.cc_defs.specs.Tokens.{AreTokens, is_quoted};
+ghost use Rattle.cc_defs.specs.Tokens.{is_quoted};
 ghost use Rattle.cc_text.specs.Views.{token_views};
 ghost use Rattle.cc_syntax.specs.Marks.{same_mark};
 ghost use Rattle.cc_syntax.specs.Readers.{sign_at, word_at, name_at, numeral_at, label_at, quoted_at, unquoted};
-ghost use Rattle.cc_syntax.specs.Views.{seen, Stands, Reads, Passes, PassesBehind};
+ghost use Rattle.cc_syntax.specs.Views.{AreReadable, seen, Stands, Reads, Passes, PassesBehind};
 
 use crate::stop::Stop;
 use crate::words::is_reserved_word;
@@ -101,7 +101,7 @@ pub(crate) fn name<'s>(tokens: &[Token<'s>], at: usize) -> Result<(&'s str, usiz
 
 /// A number.
 pub(crate) fn numeral(tokens: &[Token], at: usize) -> Result<(u32, usize), Stop>
-    requires { AreTokens (token_views tokens.now) }
+    requires { AreReadable (token_views tokens.now) }
     ensures { Reads (λ n. n) tokens.now result (numeral_at (drop at (seen tokens.now))) }
 {
     let Some((token, next)) = next_token(tokens, at) else {
@@ -137,7 +137,7 @@ fn between_quotes<'s>(text: &'s str) -> &'s str
 
 /// A name in quotes, without them.
 pub(crate) fn quoted<'s>(tokens: &[Token<'s>], at: usize) -> Result<(&'s str, usize), Stop>
-    requires { AreTokens (token_views tokens.now) }
+    requires { AreReadable (token_views tokens.now) }
     ensures { Reads (λ text. text.now) tokens.now result (quoted_at (drop at (seen tokens.now))) }
 {
     let Some((token, next)) = next_token(tokens, at) else {
