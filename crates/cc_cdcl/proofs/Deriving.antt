@@ -1,6 +1,6 @@
 -- Conflict analysis: how the staged clause is resolved back along the trail, and what is derived in the end.
 use Rattle.std.proofs.Common.{◌≡◌, ◌≢◌, ◌∙◌, ℕ, ◌+◌, ◌-◌, ◌<◌, ◌≤◌, zero, suc, inl, inr, Bool, true, false, List, [], ◌∷◌, ◌++◌, length, map, take, drop, get_or, None, Option, Some, option_and_then, refl, sym, subst, ap, arith, length-append, append-nil}
-use Rattle.std.specs.Prelude.{◌⊎◌, Contains, slice_get, IfNone, IfOk, IfSome, OnErr, OnOk, Result, Ok, Err}
+use Rattle.std.specs.Prelude.{◌⊎◌, Contains, slice_get, IfNone, IfSome, OnErr, OnOk, Result, Ok, Err}
 use Rattle.std.specs.Bool.{MatchBool}
 use Rattle.std.specs.List.{AllByRecursion}
 use Rattle.std.proofs.lemmas.List.{length-map}
@@ -152,9 +152,6 @@ module _ (variables : ℕ) (steps : List Step) (level_count : ℕ) (are : AreSte
 pub on_ok : {T E : Type 0} (P : Type 0) (result : Result T E) → P → OnOk result P
 on_ok P (Ok value) holds = holds
 on_ok P (Err error) holds = tt
-
-pub ok_of : {T E : Type 0} (P : T → Type 0) (result : Result T E) (value : T) → result ≡ Ok value → IfOk result P → P value
-ok_of P result value is holds = rw is at holds
 
 pub on_err : {T E : Type 0} (P : Type 0) (result : Result T E) → P → OnErr result P
 on_err P (Ok value) p = tt

@@ -1,5 +1,5 @@
 //! The search for the rows of clauses: derived clauses, and the least row that no block denies yet.
-ghost use Rattle.std.specs.Prelude.{◌≡◌, ◌≢◌, ℕ, ◌+◌, ◌<◌, ◌≤◌, ◌^◌, List, Ok, IfOk, OnOk, OnErr, length, replicate, sum};
+ghost use Rattle.std.specs.Prelude.{◌≡◌, ◌≢◌, ℕ, ◌+◌, ◌<◌, ◌≤◌, ◌^◌, List, IfOk, OnOk, OnErr, length, sum};
 ghost use Rattle.cc_defs.specs.Assignments.{HasOpen};
 ghost use Rattle.cc_defs.specs.Limits.{most_variables};
 ghost use Rattle.cc_defs.specs.Rows.{IsRow};
@@ -115,56 +115,10 @@ fn write_denial(sizes: &[u32], row: &[u32], clause: &mut Vec<Lit>) -> Result<(),
     clause.clear();
     let mut first = 1;
     for index in 0..sizes.len() {
-        let size = sizes[index];
         clause.push(Lit::negative(first + row[index]))?;
-        first += size;
+        first += sizes[index];
     }
     Ok(())
-}
-
-// Two values that were made; else the error of the first that was not.
-fn both<X: Drop, Y: Drop, E: Drop>(first: Result<X, E>, second: Result<Y, E>) -> Result<(X, Y), E>
-    ensures { IfOk result (λ made. (first ≡ Ok made.0) × (second ≡ Ok made.1)) }
-{
-    match first {
-        Ok(first) => match second {
-            Ok(second) => Ok((first, second)),
-            Err(error) => Err(error),
-        },
-        Err(error) => Err(error),
-    }
-}
-
-// What a search takes at once. It is made by itself, so that there is less to let go where memory is wanting.
-#[derive(Drop)]
-struct Rooms {
-    sizes: Vec<u32>,
-    row: Vec<u32>,
-    cursors: Vec<Cursor>,
-    shortening: Shortening,
-}
-
-impl Rooms {
-    // The rooms for so many variables, and for rows of positions with these sizes.
-    fn for_search(alloc: Global, variables: u32, sizes: &[u32]) -> Result<Rooms, OutOfMemory>
-        ensures sizes { IfOk result (λ rooms. rooms.sizes.items ≡ sizes.now) }
-        ensures row { IfOk result (λ rooms. length rooms.row.items ≡ length sizes.now) }
-        ensures cursors { IfOk result (λ rooms. rooms.cursors.items
-            ≡ replicate (variables + 1) (record { position = 0; first = 1; variable = 1 })) }
-    {
-        let (own_sizes, row) = both(
-            Vec::from_slice(alloc, sizes),
-            vec![in alloc; 0u32; sizes.len()],
-        )?;
-        let cursors = vec![in alloc; Cursor::start(); variables as usize + 1]?;
-        let shortening = Shortening::new(alloc, variables)?;
-        Ok(Rooms {
-            sizes: own_sizes,
-            row,
-            cursors,
-            shortening,
-        })
-    }
 }
 
 impl Parts {
@@ -175,24 +129,23 @@ impl Parts {
         ensures { IfOk result (λ parts.
             parts ≡ record { sizes = sizes.now; kernel = kernel; standing = Ready }) }
     {
-        match both(
-            Rooms::for_search(alloc, kernel.variables(), sizes),
-            Trail::new(alloc, &kernel),
-        ) {
-            Ok((rooms, trail)) => Ok(Parts {
-                sizes: rooms.sizes,
-                kernel,
-                trail,
-                cursors: rooms.cursors,
-                shortening: rooms.shortening,
-                probe: Probe::new(alloc),
-                row: rooms.row,
-                denial: Vec::new(alloc),
-                derived: 0,
-                state: State::Ready,
-            }),
-            Err(error) => Err(error),
-        }
+        let own_sizes = Vec::from_slice(alloc, sizes)?;
+        let row = vec![in alloc; 0u32; sizes.len()]?;
+        let cursors = vec![in alloc; Cursor::start(); kernel.variables() as usize + 1]?;
+        let shortening = Shortening::new(alloc, kernel.variables())?;
+        let trail = Trail::new(alloc, &kernel)?;
+        Ok(Parts {
+            sizes: own_sizes,
+            kernel,
+            trail,
+            cursors,
+            shortening,
+            probe: Probe::new(alloc),
+            row,
+            denial: Vec::new(alloc),
+            derived: 0,
+            state: State::Ready,
+        })
     }
 
     // Searches on, up to the next derived clause or row.
