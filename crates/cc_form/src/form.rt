@@ -15,7 +15,7 @@ ghost use Rattle.cc_defs.specs.Terms.{postfix};
 ghost use Rattle.cc_theory.specs.Making.{stride_of};
 ghost use Rattle.cc_theory.specs.Theories.{AreRulesAt, IsTheoryOf};
 ghost use Rattle.cc_form.specs.Drafts.{IsWhole};
-ghost use Rattle.cc_form.specs.Forms.{TellsHistories, asked, form_of, form_refusal, with_atom};
+ghost use Rattle.cc_form.specs.Forms.{IsForm, TellsHistories, asked, form_of, form_refusal, with_atom};
 ghost use Rattle.cc_form.specs.Machine.{Adds, IsPast};
 ghost use Rattle.cc_form.specs.Making.{asserted_nodes, denied_nodes, nodes_if, query_list, rules_list};
 ghost use Rattle.cc_form.specs.Places.{position_sizes};
@@ -70,6 +70,7 @@ impl Form {
     pub fn count(&self) -> u32
         ensures value { result ≡ length self.now.clauses }
         ensures most { result ≤ most_clauses }
+        ensures form { IsForm self.now }
     {
         self.clauses.count() as u32
     }
