@@ -147,6 +147,30 @@ fn list_mode_alone_says_the_same(rt: HostRuntime) -> Result<(), Fail> {
     Ok(())
 }
 
+/// What a run gives to Err over a file of so many spaces.
+fn err_of_spaces(alloc: Global, count: usize) -> Result<Vec<u8>, OutOfMemory> {
+    let mut files = Vec::new(alloc);
+    files.push(padded(alloc, "f.cc", "", count)?)?;
+    let fails = Nums::of(Vec::new(alloc));
+    let mut desk = MemoryDesk::new(alloc, Files::of(files), fails, 65536, [64, 64, 64])?;
+    let words = words_of(alloc, "f.cc")?;
+    let status = run(alloc, &words, &mut desk);
+    let err = Vec::from_slice(alloc, desk.written(To::Err))?;
+    drop(desk);
+    if status == Status::Refused { Ok(err) } else { Ok(Vec::new(alloc)) }
+}
+
+// A file may have 1,048,576 bytes, and not one more.
+#[test]
+fn files_have_a_limit(rt: HostRuntime) -> Result<(), Fail> {
+    let alloc = rt.alloc();
+    let within = err_of_spaces(alloc, 1_048_576)?;
+    assert!(rt; within.as_slice() == b"ccalc: 15 NoQuery\n".as_slice());
+    let past = err_of_spaces(alloc, 1_048_577)?;
+    assert!(rt; past.as_slice() == b"ccalc: f.cc:1: 14 Limit file bytes 1048576\n".as_slice());
+    Ok(())
+}
+
 // A log is begun at no file that was read, whatever its name, and that file stays as it was.
 #[test]
 fn a_log_is_no_file_that_was_read(rt: HostRuntime) -> Result<(), Fail> {
