@@ -10,7 +10,7 @@ mod progress;
 mod read;
 mod words;
 
-pub use cnf::Cnf;
+pub use cnf::{Clauses, Cnf};
 pub use export::{export_heading, export_line, export_text};
 pub use form::cnf_form;
 pub use read::read_cnf;
