@@ -123,24 +123,13 @@ end_from test n (x ∷ names) name here e = step (test x) e (end_from test (n + 
     step true e more = absurd cc
     step false e more = let same : n + 1 + length names ≡ n + suc (length names) = omega arith in more e ∙ ap (λ (k : ℕ). Some k) same
 
-pub number_last : (names : List (List ℕ)) (name : List ℕ) → is_among names name ≡ false → number_of (names ++ name ∷ []) name ≡ Some (length names)
-number_last names name e =
-    position_from-zero (same_text name) (names ++ name ∷ []) ∙ end_from (same_text name) 0 names name (same_self name) e ∙ ap (λ (n : ℕ). Some n) (zero_more (length names))
+pub number_end : (names : List (List ℕ)) (name : List ℕ) → is_among names name ≡ false → number_in (names ++ name ∷ []) name ≡ length names
+number_end names name e =
+    ap (λ (found : Option ℕ). unwrap_or found 0) (position_from-zero (same_text name) (names ++ name ∷ []) ∙ end_from (same_text name) 0 names name (same_self name) e)
+    ∙ zero_more (length names)
   where
     zero_more : (n : ℕ) → 0 + n ≡ n
     zero_more n = omega arith
-
-pub number_end : (names : List (List ℕ)) (name : List ℕ) → is_among names name ≡ false → number_in (names ++ name ∷ []) name ≡ length names
-number_end names name e = ap (λ (found : Option ℕ). unwrap_or found 0) (number_last names name e)
-
--- another name than the last has the number that it has among those before
-other_from : (test : List ℕ → Bool) (n : ℕ) (names : List (List ℕ)) (last : List ℕ) → test last ≡ false → position_from test n (names ++ last ∷ []) ≡ position_from test n names
-other_from test n [] last e = ap (λ (h : Bool). cond h (Some n) None) e
-other_from test n (name ∷ names) last e = ap (λ (found : Option ℕ). cond (test name) (Some n) found) (other_from test (n + 1) names last e)
-
-pub number_other : (names : List (List ℕ)) (last name : List ℕ) → same_text name last ≡ false → number_of (names ++ last ∷ []) name ≡ number_of names name
-number_other names last name e =
-    position_from-zero (same_text name) (names ++ last ∷ []) ∙ other_from (same_text name) 0 names last e ∙ sym (position_from-zero (same_text name) names)
 
 pub not_there : (names : List (List ℕ)) (name : List ℕ) → is_among names name ≡ false → number_of names name ≡ None
 not_there names name e = position_from-zero (same_text name) names ∙ none_from (same_text name) 0 names e

@@ -1,35 +1,26 @@
 //! Entries by number, each under a name of its own, found by a hash of the name.
 ghost use Rattle.std.specs.Prelude.{◌≡◌, ◌-◌, ◌<◌, ◌++◌, ◌∷◌, [], None, length, take, slice_get, option_map, OnOk, OnErr, Some};
-ghost use Rattle.std.specs.HashMap.{UpdatesBy};
-ghost use Rattle.std.specs.String.{string_bytes, string_eq};
-ghost use Rattle.cc_defs.specs.Grammar.{same_text};
-ghost use Rattle.cc_sorts.specs.Dictionaries.{number_of, names_of, values_of, seen};
+ghost use Rattle.cc_sorts.specs.Dictionaries.{number_of, names_of, values_of};
 
-use crate::puts::{put_entry, put_last};
+use crate::puts::put_indexed;
 use cc_defs::OutOfMemory;
+use indexmap::IndexMap;
 use std::alloc::Global;
-use std::collections::HashMap;
 use std::marker::Model;
 
 /// Entries by number, in the order in which they came, each under a name of its own.
 #[derive(Drop)]
 pub(crate) struct Dictionary<V: Drop> {
-    /// Each with its name.
-    entries: Vec<(String, V)>,
-    /// The number of each name.
-    numbers: HashMap<String, usize>,
+    entries: IndexMap<String, V>,
 }
 
 impl<V: Drop> Model for Dictionary<V> {
-    ghost use Rattle.std.specs.Prelude.{List, ℕ};
-    ghost use Rattle.cc_sorts.specs.Dictionaries.{names_of, seen, AreNumbered};
+    ghost use Rattle.std.specs.Prelude.{List, ℕ, map, string_bytes};
 
     ghost Value = { List (List ℕ × V) };
 
-    ghost view = { λ dictionary. seen dictionary.entries.items };
-
-    ghost invariant = { λ dictionary.
-        AreNumbered (names_of (seen dictionary.entries.items)) dictionary.numbers.entries };
+    ghost view = { λ dictionary.
+        map (λ entry. (string_bytes entry.0, entry.1)) dictionary.entries.entries };
 }
 
 impl<V: Drop> Dictionary<V> {
@@ -37,8 +28,7 @@ impl<V: Drop> Dictionary<V> {
         ensures { result ≡ [] }
     {
         Dictionary {
-            entries: Vec::new(alloc),
-            numbers: HashMap::new(alloc),
+            entries: IndexMap::new(alloc),
         }
     }
 
@@ -52,7 +42,7 @@ impl<V: Drop> Dictionary<V> {
     pub(crate) fn find(&self, name: &str) -> Option<usize>
         ensures { result ≡ number_of (names_of self.now) name.now }
     {
-        self.numbers.get(name).copied()
+        self.entries.get_index_of(name)
     }
 
     /// The name of a number.
@@ -60,7 +50,7 @@ impl<V: Drop> Dictionary<V> {
         requires { number < length self.now }
         ensures { Some result.now ≡ slice_get (names_of self.now) number }
     {
-        match self.entries.get(number) {
+        match self.entries.get_index(number) {
             Some((name, _)) => name.as_str(),
             None => "",
         }
@@ -70,7 +60,7 @@ impl<V: Drop> Dictionary<V> {
     pub(crate) fn value(&self, number: usize) -> Option<&V>
         ensures { option_map (λ value. value.now) result ≡ slice_get (values_of self.now) number }
     {
-        match self.entries.get(number) {
+        match self.entries.get_index(number) {
             Some((_, value)) => Some(value),
             None => None,
         }
@@ -82,53 +72,15 @@ impl<V: Drop> Dictionary<V> {
         ensures added { OnOk result (self.new ≡ self.old ++ (name.now, value) ∷ []) }
         ensures unchanged { OnErr result (self.new ≡ self.old) }
     {
-        let number = self.entries.len();
-        put_named(alloc, &mut self.entries, name, value)?;
-        match put_number(alloc, &mut self.numbers, name, number) {
-            Ok(()) => Ok(()),
-            Err(error) => {
-                self.entries.pop();
-                Err(error)
-            }
-        }
+        let name = String::from_str(alloc, name)?;
+        put_indexed(&mut self.entries, name, value)
     }
 
     /// Takes the last entry out again.
     pub(crate) fn pop(&mut self)
         ensures { self.new ≡ take (length self.old - 1) self.old }
     {
-        if let Some((name, _)) = self.entries.pop() {
-            self.numbers.remove(name.as_str());
-        }
+        let last = self.entries.len().saturating_sub(1);
+        self.entries.truncate(last);
     }
-}
-
-/// Puts an entry with its name behind the others; after want of memory nothing is changed.
-fn put_named<V: Drop>(
-    alloc: Global,
-    entries: &mut Vec<(String, V)>,
-    name: &str,
-    value: V,
-) -> Result<(), OutOfMemory>
-    ensures put { OnOk result
-        (seen entries.new.items ≡ seen entries.old.items ++ (name.now, value) ∷ []) }
-    ensures unchanged { OnErr result (entries.new.items ≡ entries.old.items) }
-{
-    let name = String::from_str(alloc, name)?;
-    put_last(entries, (name, value))
-}
-
-/// Notes the number of a name; after want of memory nothing is changed.
-fn put_number(
-    alloc: Global,
-    numbers: &mut HashMap<String, usize>,
-    name: &str,
-    number: usize,
-) -> Result<(), OutOfMemory>
-    ensures noted { OnOk result (UpdatesBy string_eq (λ key. same_text name.now (string_bytes key))
-        numbers.old numbers.new (Some number)) }
-    ensures unchanged { OnErr result (numbers.new.entries ≡ numbers.old.entries) }
-{
-    let name = String::from_str(alloc, name)?;
-    put_entry(numbers, name, number)
 }

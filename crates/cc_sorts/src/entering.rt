@@ -420,7 +420,7 @@ impl Register {
     }
 }
 
-/// Declares what a statement says, or refuses it: `Table`'s `declare`.
+/// Declares what a statement says, or refuses it: `Table::declare`.
 pub(crate) fn enter(
     alloc: Global,
     statement: &Statement<'_>,

@@ -17,4 +17,4 @@ mod signature;
 mod sorts;
 mod table;
 
-pub use table::{Table, declare};
+pub use table::Table;

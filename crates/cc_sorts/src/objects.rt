@@ -6,10 +6,10 @@ ghost use Rattle.cc_sorts.specs.Dictionaries.{number_of, names_of, values_of};
 ghost use Rattle.cc_sorts.specs.Objects.{no_objects, more_objects, checked_at, AreFound};
 
 use crate::dictionary::Dictionary;
-use crate::puts::{put_entry, put_last};
+use crate::puts::{put_indexed, put_last};
 use cc_defs::OutOfMemory;
+use indexmap::IndexMap;
 use std::alloc::Global;
-use std::collections::HashMap;
 use std::marker::Model;
 
 /// Objects by number, each under a name of its own.
@@ -19,7 +19,7 @@ pub(crate) struct Objects {
     names: Dictionary<u32>,
     numbers: Vec<Option<u32>>,
     /// The object of each number. An entry may be of an object that was taken out again.
-    places: HashMap<u32, u32>,
+    places: IndexMap<u32, u32>,
 }
 
 impl Model for Objects {
@@ -40,7 +40,7 @@ impl Objects {
         Objects {
             names: Dictionary::new(alloc),
             numbers: Vec::new(alloc),
-            places: HashMap::new(alloc),
+            places: IndexMap::new(alloc),
         }
     }
 
@@ -137,7 +137,7 @@ fn checked(numbers: &[Option<u32>], number: u32, object: u32) -> Option<u32>
     }
 }
 
-fn find_number(numbers: &[Option<u32>], places: &HashMap<u32, u32>, number: u32) -> Option<u32>
+fn find_number(numbers: &[Option<u32>], places: &IndexMap<u32, u32>, number: u32) -> Option<u32>
     requires { AreFound numbers.now places.now.entries }
     ensures { result ≡ position (is_that number) numbers.now }
 {
@@ -150,7 +150,7 @@ fn find_number(numbers: &[Option<u32>], places: &HashMap<u32, u32>, number: u32)
 /// Notes the object of a number that is to go behind the others, unless there is one before it.
 fn note(
     numbers: &[Option<u32>],
-    places: &mut HashMap<u32, u32>,
+    places: &mut IndexMap<u32, u32>,
     number: Option<u32>,
     object: u32,
 ) -> Result<(), OutOfMemory>
@@ -165,5 +165,5 @@ fn note(
     if find_number(numbers, places, number).is_some() {
         return Ok(());
     }
-    put_entry(places, number, object)
+    put_indexed(places, number, object)
 }

@@ -3,8 +3,10 @@ ghost use Rattle.std.specs.Prelude.{◌≡◌, ◌<◌, ◌++◌, ◌∷◌, [],
 ghost use Rattle.std.specs.Vec.{vec_len, vec_capacity};
 ghost use Rattle.std.specs.HashMap.{IsUnchanged, Updates as UpdatesEntry};
 ghost use Rattle.std.specs.HashSet.{spare, Updates as UpdatesKey};
+ghost use Rattle.indexmap.specs.IndexMap.{insert_entry, IsUnchanged as HasStayed, Updates as UpdatesIndexed};
 
 use cc_defs::OutOfMemory;
+use indexmap::IndexMap;
 use std::collections::{HashMap, HashSet};
 use std::hash::Hash;
 
@@ -35,6 +37,20 @@ pub(crate) fn put_entry<K: Eq + Hash + Drop, V: Drop>(
 ) -> Result<(), OutOfMemory>
     ensures updates { OnOk result (UpdatesEntry K.eq map.old map.new key (Some value)) }
     ensures unchanged { OnErr result (IsUnchanged map.old map.new) }
+{
+    map.insert(key, value)?;
+    Ok(())
+}
+
+/// Puts a value under a key into a map that keeps the order in which its keys came.
+pub(crate) fn put_indexed<K: Eq + Hash + Drop, V: Drop>(
+    map: &mut IndexMap<K, V>,
+    key: K,
+    value: V,
+) -> Result<(), OutOfMemory>
+    ensures entries { OnOk result (map.new.entries ≡ insert_entry K.eq map.old.entries key value) }
+    ensures updates { OnOk result (UpdatesIndexed K.eq map.old map.new key (Some value)) }
+    ensures unchanged { OnErr result (HasStayed map.old map.new) }
 {
     map.insert(key, value)?;
     Ok(())

@@ -64,6 +64,22 @@ impl Table {
         })
     }
 
+    /// Declares what a statement of sorts, objects, variables or constants says; `file` is the number of the file in
+    /// refusals. Refuses, at the statement's line, the least number of a fault: a name or a pair given twice (4), an unknown
+    /// sort or action (5), an attribute whose action has another number of arguments (6), or a sort that does not fit (7);
+    /// then too many objects (14, with the limit objects). After a refusal nothing is changed; after want of memory a front
+    /// of a statement without a fault is there.
+    pub fn declare(&mut self, file: u32, statement: &Statement<'_>) -> Result<(), Fault>
+        ensures declared { (left : Items Declared) → IsTable self.old left →
+            OnOk result (Declares file left (plain_statement statement.now) self.new) }
+        ensures refused { (left : Items Declared) → IsTable self.old left →
+            IfErr result (HasRefused file left (plain_statement statement.now) self.old self.new) }
+        ensures unchanged { IfErr result (IsUnchangedBy self.old self.new) }
+    {
+        let alloc = self.alloc;
+        enter(alloc, statement, file, &mut self.register)
+    }
+
     /// The ground constants of all that was declared: instances in the order of their arguments, fluents before actions.
     /// Refuses the first of them without a value, at its declaration (12), then more values of one than the limit domain
     /// values, then more of them than the limit ground constants (14); nothing that passes a limit is made.
@@ -229,19 +245,4 @@ impl Table {
     {
         self.register.below(lower, upper)
     }
-}
-
-/// Declares in a table what a statement of sorts, objects, variables or constants says. Refuses, at the statement's line, the
-/// least number of a fault: a name or a pair given twice (4), an unknown sort or action (5), an attribute whose action
-/// has another number of arguments (6), or a sort that does not fit (7); then too many objects (14, with the limit
-/// objects). After a refusal nothing is changed; after want of memory a front of a statement without a fault is there.
-pub fn declare(statement: &Statement<'_>, file: u32, table: &mut Table) -> Result<(), Fault>
-    ensures declared { (left : Items Declared) → IsTable table.old left →
-        OnOk result (Declares file left (plain_statement statement.now) table.new) }
-    ensures refused { (left : Items Declared) → IsTable table.old left →
-        IfErr result (HasRefused file left (plain_statement statement.now) table.old table.new) }
-    ensures unchanged { IfErr result (IsUnchangedBy table.old table.new) }
-{
-    let alloc = table.alloc;
-    enter(alloc, statement, file, &mut table.register)
 }
