@@ -196,7 +196,8 @@ impl Trail {
         Ok(())
     }
 
-    /// Attaches the next clause of a kernel.
+    /// Attaches the next clause of a kernel, and takes the memory for its nodes: propagation takes none. After want of memory the
+    /// trail is as before.
     pub fn attach(&mut self, kernel: &Kernel, id: u32) -> Result<(), OutOfMemory>
         requires fits { Fits self.old kernel.now }
         requires next { id ≡ self.old.attached + 1 }
@@ -351,7 +352,8 @@ impl Trail {
 
     /// Unit propagation: makes literals true at the last level, each by a clause whose other literals are false, for as
     /// long as there is such a clause. None where no clause is false and none is left with one literal that has no value
-    /// and all others false; else the number of a clause that is false.
+    /// and all others false; else the number of a clause that is false. It takes no memory: a node that is moved has a link of its
+    /// own, and all entries have their places from the beginning.
     pub fn propagate(&mut self, kernel: &Kernel) -> Option<u32>
         requires fits { Fits self.old kernel.now }
         requires all { self.old.attached ≡ length kernel.now.entries }
