@@ -25,7 +25,7 @@ judge_section-requires-clause-early c =
 
 pub returns-in_err-next-clause-refused : goal.returns-in_err-next-clause-refused
 returns-in_err-next-clause-refused c = λ d q of stands all are few.
-    as_err (IsFaultOn (scope_of d q (option_map (λ (key : Bor Key). key.now) c.args.after)) all) c.from_residual-in_err-next.result c.in_err-next.field-0.0 c.from_residual-in_err-next.ensures.1
+    as_err (IsFaultOn (scope_of d q (option_map (λ (key : Bor Key). key.now) c.args.after)) all) c.from_residual.result c.in_err-next.field-0.0 c.from_residual.ensures.1
     (went_past (Asked c.args.sig.now c.args.laws.now (plain_ground_query c.args.query.now)) (scope_asked c.args.sig.now c.args.laws.now (plain_ground_query c.args.query.now) (option_map (λ (key : Bor Key). key.now) c.args.after))
     (first_at (plain_ground_query c.args.query.now) (option_map (λ (key : Bor Key). key.now) c.args.after)) c.args.sections.now c.loop-section.sections c.loop-section.standing c.loop-section.invariant
     c.in-Some.section c.next.new.self (rw c.in-Some.is at c.next.ensures.next) (record { description = d; query_of = q; of = of; stands = stands }) all are few c.in_err-next.field-0.0
