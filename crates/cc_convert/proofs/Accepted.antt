@@ -24,7 +24,7 @@ use Rattle.cc_judge.specs.Judging.{AreJudgedWithin, HasGoodAxioms, HasSections, 
 use Rattle.cc_log.specs.Versions.{HaveEntries}
 use Rattle.cc_log.proofs.Converting.{reading_of}
 use Rattle.cc_convert.specs.Laws.{AcceptedLogsSayLines, SaysLines}
-use Rattle.cc_convert.specs.Saying.{AreSaid}
+use Rattle.cc_convert.specs.Saying.{AreSaid, AreSayableBy, IsHeadedBy, OpensWithin}
 use Rattle.cc_convert.proofs.Bounds.{form_low}
 use Rattle.cc_convert.proofs.Inside.{IsLow, SaysTexts, inside_said, says_more, says_none}
 use Rattle.cc_convert.proofs.Joined.{both_long, entries_few, entries_joined, joined, lines_few, lines_joined}
@@ -58,6 +58,21 @@ module _ (Goes : Standing → Type 0) (standing : Standing) (from to blocked : �
 
 -- ---- the sections of a log
 
+-- the headings of an accepted log
+abbrev may : Description → Query → Option Key → Bool → ℕ → Type 0
+may d q key conditions horizon = (first_horizon q key ≤ horizon) × (horizon ≤ last_horizon q key) × (limit_of d q key conditions horizon ≡ None)
+
+module _ (d : Description) (q : Query) (key : Option Key) where
+  opens : (line : LogLine) → IsHeadedBy (may d q key) line → OpensWithin d q key line
+  opens (lines.Section conditions horizon) is = is
+  opens (lines.Derived clause chain) is = tt
+  opens (lines.Block row) is = tt
+  opens (lines.End word) is = tt
+
+  said_by : (own : ℕ) (all : List LogLine) → AreSayableBy (may d q key) (counts_in (subject_of d q key)) own all → AreSaid d q key own all
+  said_by own [] is = tt
+  said_by own (line ∷ others) is = (is.0, opens line is.1, said_by (own_behind (counts_in (subject_of d q key)) own line) others is.2)
+
 module _ (d : Description) (q : Query) (key : Option Key) (short : IsShort (last_horizon q key)) (version : Version) (from to blocked : ℕ) where
   abbrev counts : Bool → ℕ → ℕ
   counts = counts_in (subject_of d q key)
@@ -69,18 +84,18 @@ module _ (d : Description) (q : Query) (key : Option Key) (short : IsShort (last
   one_said : (own horizon : ℕ) (conditions : Bool) (line : ℕ) (heading : List ℕ) (texts rest : List (List ℕ)) (word : EndWord) (blocks last : ℕ) →
       first_horizon q key ≤ horizon → horizon ≤ last_horizon q key → limit_of d q key conditions horizon ≡ None → HasGoodAxioms d q key conditions horizon →
       IsSpelled version heading (lines.Section conditions horizon) → own ≤ 500000000 → length (texts ++ rest) ≤ most_log_bytes → length (heading ++ joined (texts ++ rest)) ≤ most_log_bytes →
-      ((behind : ℕ) → behind + length rest ≤ 500000000 → SaysTexts d q key version behind rest) →
+      ((behind : ℕ) → behind + length rest ≤ 500000000 → SaysTexts (may d q key) (counts_in (subject_of d q key)) version behind rest) →
       IsFound (reading_of version) (axioms_of d q key conditions horizon) ((axioms_of d q key conditions horizon).clauses) 0 line texts (Right word blocks last) →
-      SaysTexts d q key version own (heading ∷ (texts ++ rest))
+      SaysTexts (may d q key) (counts_in (subject_of d q key)) version own (heading ∷ (texts ++ rest))
   one_said own horizon conditions line heading texts rest word blocks last low high none good spelled room many few behind found =
       let axioms = axioms_of d q key conditions horizon in
       let (most, clauses) = limits_low conditions horizon none in
       let long = length-append heading (joined (texts ++ rest)) in
       let both = both_long texts rest in
-      let is_low : IsLow d q key version axioms = record { most = most; positions = good.positions } in
-      says_more d q key version own (lines.Section conditions horizon) heading (texts ++ rest) (heading_is version spelled)
+      let is_low : IsLow (may d q key) (counts_in (subject_of d q key)) version axioms = record { most = most; positions = good.positions } in
+      says_more (may d q key) (counts_in (subject_of d q key)) version own (lines.Section conditions horizon) heading (texts ++ rest) (heading_is version spelled)
       (section_sayable own conditions horizon (omega arith) (omega arith)) (low, high, none)
-      (inside_said d q key version axioms is_low rest behind word blocks last axioms.clauses 0 line (length axioms.clauses + 1) texts good.over refl
+      (inside_said (may d q key) (counts_in (subject_of d q key)) version axioms is_low rest behind word blocks last axioms.clauses 0 line (length axioms.clauses + 1) texts good.over refl
       (omega arith) (omega arith) found) where
         heading_is : (v : Version) → IsSpelled v heading (lines.Section conditions horizon) → heading ≡ line_bytes v own (lines.Section conditions horizon)
         heading_is First is = is.spelled
@@ -89,8 +104,8 @@ module _ (d : Description) (q : Query) (key : Option Key) (short : IsShort (last
   sections_said : (standing : Standing) (own line : ℕ) (texts : List (List ℕ)) (sections : List SectionText) → AreSections version line texts sections →
       AreJudgedWithin (subject_of d q key) (limit_of d q key) (HasGoodAxioms d q key) standing sections (verdicts.Accepted from to blocked) →
       first_horizon q key ≤ standing.horizon → own + length texts ≤ 500000000 → length texts ≤ most_log_bytes → length (joined texts) ≤ most_log_bytes →
-      SaysTexts d q key version own texts
-  sections_said standing own line texts [] are judged low room many few = subst (SaysTexts d q key version own) (sym are) (says_none d q key version own)
+      SaysTexts (may d q key) (counts_in (subject_of d q key)) version own texts
+  sections_said standing own line texts [] are judged low room many few = subst (SaysTexts (may d q key) (counts_in (subject_of d q key)) version own) (sym are) (says_none (may d q key) (counts_in (subject_of d q key)) version own)
   sections_said standing own line texts (section ∷ sections) are (inl (out, is)) low room many few = absurd cc
   sections_said standing own line texts (section ∷ sections) (heading, rest, is, at, spelled, none, are, same) (inr (is_next, within, good, (finding, found, follows))) low room many few =
       let behind = goes_behind (λ next. AreJudgedWithin (subject_of d q key) (limit_of d q key) (HasGoodAxioms d q key) next sections (verdicts.Accepted from to blocked)) standing from to blocked
@@ -108,7 +123,7 @@ module _ (d : Description) (q : Query) (key : Option Key) (short : IsShort (last
       let both = both_long section.texts rest in
       let found_right = subst (λ (f : Finding). IsFound (reading_of section.version) axioms axioms.clauses 0 (section.line + 1) section.texts f) behind.right found in
       let found_here = subst (λ (v : Version). IsFound (reading_of v) axioms axioms.clauses 0 (section.line + 1) section.texts (Right behind.word behind.blocks behind.line)) same found_right in
-      subst (SaysTexts d q key version own) (sym is)
+      subst (SaysTexts (may d q key) (counts_in (subject_of d q key)) version own) (sym is)
       (one_said own horizon conditions (section.line + 1) heading section.texts rest behind.word behind.blocks behind.line (omega arith) (omega arith) within good spelled
       (omega arith) (omega arith) (omega arith)
       (λ after small. sections_said behind.next after (line + 1 + length section.texts) rest sections are behind.goes (omega arith) small (omega arith) (omega arith))
@@ -118,7 +133,7 @@ module _ (d : Description) (q : Query) (key : Option Key) (short : IsShort (last
 
   texts_said : (texts : List (List ℕ)) (sections : List SectionText) → AreSections version 2 texts sections →
       AreJudgedWithin (subject_of d q key) (limit_of d q key) (HasGoodAxioms d q key) (at_first (subject_of d q key)) sections (verdicts.Accepted from to blocked) →
-      length texts ≤ most_log_bytes → length (joined texts) ≤ most_log_bytes → SaysTexts d q key version 1 texts
+      length texts ≤ most_log_bytes → length (joined texts) ≤ most_log_bytes → SaysTexts (may d q key) (counts_in (subject_of d q key)) version 1 texts
   texts_said texts sections are judged many few = sections_said (at_first (subject_of d q key)) 1 2 texts sections are judged (omega arith) (omega arith) many few
 
 -- ---- the law
@@ -133,14 +148,14 @@ entries_all d q key own [] said = tt
 entries_all d q key own (line ∷ others) said = (said.0.entry, entries_all d q key (own_behind (counts_in (subject_of d q key)) own line) others said.2)
 
 module _ (d : Description) (q : Query) (key : Option Key) (bytes : List ℕ) where
-  says_lines : (version : Version) (texts : List (List ℕ)) → bytes ≡ header_of version ++ joined texts → SaysTexts d q key version 1 texts → SaysLines d q key bytes
+  says_lines : (version : Version) (texts : List (List ℕ)) → bytes ≡ header_of version ++ joined texts → SaysTexts (may d q key) (counts_in (subject_of d q key)) version 1 texts → SaysLines d q key bytes
   says_lines version texts is says = record {
     version = version;
     said = says.said;
     lines = is ∙ ap (λ (t : List ℕ). header_of version ++ t) says.written;
-    each = says.each;
-    sayable = sayable_all d q key 1 says.said says.each;
-    entries = entries_all d q key 1 says.said says.each;
+    each = said_by d q key 1 says.said says.each;
+    sayable = sayable_all d q key 1 says.said (said_by d q key 1 says.said says.each);
+    entries = entries_all d q key 1 says.said (said_by d q key 1 says.said says.each);
   }
 
   of_sections : (from to blocked : ℕ) (sections : List SectionText) → length bytes ≤ most_log_bytes → IsShort (last_horizon q key) → HasSections bytes sections →

@@ -1,38 +1,34 @@
 -- The lines of a section that is right.
-use Rattle.std.proofs.Common.{◌≡◌, ℕ, ◌+◌, ◌≤◌, inl, inr, List, [], ◌∷◌, ◌++◌, length, length-append, Option, refl, sym, ap₂, subst, arith}
+use Rattle.std.proofs.Common.{◌≡◌, ℕ, ◌+◌, ◌≤◌, inl, inr, Bool, List, [], ◌∷◌, ◌++◌, length, length-append, refl, sym, ap₂, subst, arith}
 use Rattle.std.specs.Prelude.{sum}
 use Rattle.std.specs.List.{AllByRecursion}
-use Rattle.cc_defs.specs.declared.lists.Key.{Key}
 use Rattle.cc_defs.specs.declared.log.EndWord.{EndWord}
 use Rattle.cc_defs.specs.declared.log.LogLine.{LogLine}
 use Rattle.cc_defs.specs.declared.log.LogLine.TheVariants as lines
 use Rattle.cc_defs.specs.declared.log.Version.{Version}
 use Rattle.cc_defs.specs.Clauses.{IsOver, Literal, Reaches}
-use Rattle.cc_defs.specs.Description.{Description}
 use Rattle.cc_defs.specs.Limits.{most_log_bytes, most_variables}
 use Rattle.cc_defs.specs.LogBytes.{line_meant}
-use Rattle.cc_defs.specs.LogVersions.{counts_in, line_bytes, lines_bytes, own_behind}
-use Rattle.cc_defs.specs.Resolved.{Query}
+use Rattle.cc_defs.specs.LogVersions.{line_bytes, lines_bytes, own_behind}
 use Rattle.cc_defs.specs.Sections.{Axioms, Right, IsEnded, IsFound, IsJudged, row_denial}
-use Rattle.cc_query.specs.Accepted.{subject_of}
 use Rattle.cc_log.proofs.Converting.{own_pushed, reading_of}
-use Rattle.cc_convert.specs.Saying.{AreSaid, IsSayableAt, OpensWithin}
+use Rattle.cc_convert.specs.Saying.{AreSayableBy, IsHeadedBy, IsSayableAt}
 use Rattle.cc_convert.proofs.Bounds.{IsLowChain, denial_over, low_chain, over_most, over_push, row_low}
 use Rattle.cc_convert.proofs.Joined.{joined}
 use Rattle.cc_convert.proofs.Spoken.{IsSpoken, block_sayable, derived_sayable, end_sayable, spoken}
 
-module _ (d : Description) (q : Query) (key : Option Key) (version : Version) where
+module _ (May : Bool → ℕ → Type 0) (counts : Bool → ℕ → ℕ) (version : Version) where
   -- Texts are those of lines that both versions can say.
   pub record SaysTexts (own : ℕ) (texts : List (List ℕ)) : Type 0 where
     pub said : List LogLine
-    pub written : joined texts ≡ lines_bytes version (counts_in (subject_of d q key)) own said
-    pub each : AreSaid d q key own said
+    pub written : joined texts ≡ lines_bytes version counts own said
+    pub each : AreSayableBy May counts own said
 
   pub says_none : (own : ℕ) → SaysTexts own []
   says_none own = record { said = []; written = refl; each = tt }
 
   pub says_more : (own : ℕ) (line : LogLine) (text : List ℕ) (texts : List (List ℕ)) → text ≡ line_bytes version own line → IsSayableAt own line →
-      OpensWithin d q key line → SaysTexts (own_behind (counts_in (subject_of d q key)) own line) texts → SaysTexts own (text ∷ texts)
+      IsHeadedBy May line → SaysTexts (own_behind counts own line) texts → SaysTexts own (text ∷ texts)
   says_more own line text texts is sayable opens more = record {
     said = line ∷ more.said;
     written = ap₂ (λ (t ts : List ℕ). t ++ ts) is more.written;

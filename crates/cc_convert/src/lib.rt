@@ -1,8 +1,10 @@
-//! The lines of an accepted log, one after another, so that it can be written in its other version.
+//! The lines of an accepted log, one after another, so that it can be written in its other version, and those of a right section.
 #![tactic(auto)]
 
 mod held;
 pub mod laws;
+mod lines;
 mod said;
 
+pub use lines::{LogLines, lines_of};
 pub use said::{behind_header, said_line, version_of};

@@ -1,10 +1,11 @@
 //! The lines of a log that was accepted.
-ghost use Rattle.std.specs.Prelude.{◌≡◌, ◌++◌, ℕ, List, IfOk};
+ghost use Rattle.std.specs.Prelude.{◌≡◌, ◌++◌, ◌↔◌, ℕ, List, IfOk};
 ghost use Rattle.cc_defs.specs.declared.log.LogLine.{LogLine as Line};
 ghost use Rattle.cc_defs.specs.declared.log.LogLine.TheVariants as lines;
 ghost use Rattle.cc_defs.specs.declared.log.Version.{Version as Written};
+ghost use Rattle.cc_defs.specs.declared.log.Version.TheVariants as versions;
 ghost use Rattle.cc_defs.specs.LogTexts.{IsFormed, IsLine, line_text};
-ghost use Rattle.cc_defs.specs.LogBytes.{entry_bytes, line_behind};
+ghost use Rattle.cc_defs.specs.LogBytes.{binary_header, entry_bytes, line_behind};
 ghost use Rattle.cc_defs.specs.LogVersions.{header_of, line_bytes};
 ghost use Rattle.cc_convert.specs.Saying.{IsOverMost, IsSayableAt};
 
@@ -16,9 +17,11 @@ use std::alloc::Global;
 // The first bytes of a log of version 2.
 const BINARY_HEADER: &[u8] = b"ccalclg2";
 
-/// The version of a log, by its first eight bytes.
+/// The version of a log, by its first eight bytes: the second exactly where they are those of version 2.
 pub fn version_of(bytes: &[u8]) -> Version
-    ensures { (version : Written) (rest : List ℕ) →
+    ensures second { (result ≡ versions.Second)
+        ↔ ((rest : List ℕ) × (bytes.now ≡ binary_header ++ rest)) }
+    ensures of { (version : Written) (rest : List ℕ) →
         bytes.now ≡ header_of version ++ rest → result ≡ version }
 {
     match bytes.strip_prefix(BINARY_HEADER) {

@@ -11,7 +11,7 @@ use Rattle.cc_run.proofs.modes.convert.give_other.Goals as goal
 pub returns-in_err-give_header : goal.returns-in_err-give_header
 returns-in_err-give_header g c = λ d q of says.
     let counts = counts_of d q c.args.prepared.now.key in
-    let same = c.other_version.ensures ∙ ap other_version (c.version_of-version.ensures says.version _ says.lines) in
+    let same = c.other_version.ensures ∙ ap other_version (c.version_of-version.ensures.of says.version _ says.lines) in
     cut_one outputs.Log (header_of (other_version says.version)) (lines_bytes (other_version says.version) counts 1 says.said) _ _
     c.give_header.result c.in_err-give_header.field-0.0 c.from_residual.result
     (step_as _ _ _ _ c.give_header.result (ap (λ (v : Version). given_to outputs.Log (header_of v)) same) (c.give_header.ensures counts))
@@ -21,7 +21,7 @@ pub give_lines-requires-clause-left : goal.give_lines-requires-clause-left
 give_lines-requires-clause-left g c =
     let (d, q, of, says) = c.requires.says in
     let rest = lines_bytes says.version (counts_of d q c.args.prepared.now.key) 1 says.said in
-    let same = c.version_of-version.ensures says.version rest says.lines in
+    let same = c.version_of-version.ensures.of says.version rest says.lines in
     let behind = c.behind_header.ensures rest (says.lines ∙ ap (λ (v : Version). header_of v ++ rest) (sym same)) in
     (d, q, says.said, of, says_left d q c.args.prepared.now.key c.args.bytes.now c.requires.few says _ _ same behind)
 
@@ -29,7 +29,7 @@ pub returns : goal.returns
 returns g c = λ d q of says.
     let counts = counts_of d q c.args.prepared.now.key in
     let rest = lines_bytes says.version counts 1 says.said in
-    let same = c.version_of-version.ensures says.version rest says.lines in
+    let same = c.version_of-version.ensures.of says.version rest says.lines in
     let behind = c.behind_header.ensures rest (says.lines ∙ ap (λ (v : Version). header_of v ++ rest) (sym same)) in
     then_one outputs.Log (header_of (other_version says.version)) (lines_bytes (other_version says.version) counts 1 says.said) _ _ _
     c.give_header.result c.in_ok-give_header.field-0 c.give_lines.result
