@@ -2,3 +2,5 @@ mod Each
 mod Having
 mod Nothing
 mod Behind
+mod Right
+mod Positions

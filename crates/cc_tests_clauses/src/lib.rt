@@ -15,7 +15,11 @@ mod clauses;
 #[cfg(test)]
 mod entries;
 #[cfg(test)]
+mod forms;
+#[cfg(test)]
 mod kernel;
+#[cfg(test)]
+mod lines;
 #[cfg(test)]
 mod silent;
 #[cfg(test)]

@@ -13,7 +13,7 @@ use cc_theory::Theory;
 use std::alloc::Global;
 
 // Whether two clause lists are the same, clause by clause.
-fn is_same(form: &Form, other: &Form) -> bool {
+pub(crate) fn is_same(form: &Form, other: &Form) -> bool {
     if form.variables() != other.variables() || form.count() != other.count() {
         return false;
     }
