@@ -648,9 +648,9 @@ fn expand_part(
 /// statement that is no law has no such fault. `file` is the number of the file in refusals.
 pub fn expand(
     alloc: Global,
-    statement: &Statement<'_>,
     file: u32,
     table: &Table,
+    statement: &Statement<'_>,
 ) -> Result<BaseLaws, Fault>
     ensures expanded { (left : Items Declared) → IsTable table.now left → IfOk result (λ laws.
         Expands file left (plain_statement statement.now) (map plain_base_law laws)) }

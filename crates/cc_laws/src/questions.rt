@@ -392,9 +392,9 @@ fn ask(
 /// file in refusals.
 pub fn question(
     alloc: Global,
-    statement: &Statement<'_>,
     file: u32,
     table: &Table,
+    statement: &Statement<'_>,
 ) -> Result<Query, Fault>
     ensures asked { (left : Items Declared) → IsTable table.now left →
         IfOk result (λ query. Asks file left (plain_statement statement.now) (plain_query query)) }

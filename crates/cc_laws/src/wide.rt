@@ -296,9 +296,9 @@ fn expand_wide_part(
 /// that is not definite is none. `file` is the number of the file in refusals.
 pub fn expand_wide(
     alloc: Global,
-    statement: &Statement<'_>,
     file: u32,
     table: &Table,
+    statement: &Statement<'_>,
 ) -> Result<WideLaws, Fault>
     ensures expanded { (left : Items Declared) → IsTable table.now left → IfOk result (λ laws.
         ExpandsWide file left (plain_statement statement.now) (map plain_wide_base laws)) }
