@@ -4,6 +4,7 @@ use Rattle.std.specs.List.{AllByRecursion}
 use Rattle.cc_defs.specs.Tokens.{TokenView, AreTokens, statements}
 use Rattle.cc_text.specs.Laws.{CutOrStop, StatementsAreTokens}
 use Rattle.cc_syntax.specs.Parsing.{TreeOrRefusal}
+use Rattle.cc_syntax.proofs.Readable.{readable}
 use Rattle.cc_describe.specs.Places.{Files, content, Place, Opened, Barred, Said, opened_in, included, AreBehind, AreOfStatement, AreOfStatements, AreOfText, AreOfFile, NoPlaces, ArePlaces}
 
 -- whatever is included has places
@@ -19,7 +20,7 @@ pub statement_places_exist : TreeOrRefusal → (Inside : ℕ → List ℕ → Li
     (file : ℕ) (around : List (List ℕ)) (number : ℕ) (tokens : List TokenView) → AreTokens tokens →
     (places : List Place) × AreOfStatement Inside file around number tokens places
 statement_places_exist read Inside has file around number tokens are =
-    elim (read file tokens are) [
+    elim (read file tokens (readable tokens are)) [
       | inl tree ↦
           let behind = behind_exists Inside has number (included tree.0.part) in
           (Said file around tree.0 ∷ behind.0, inr (tree.0, behind.0, tree.1, behind.1, refl))

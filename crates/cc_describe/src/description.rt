@@ -49,7 +49,7 @@ pub enum DescribeStop {
 
 /// Reads a description: the file with this name and the files that it includes, each in place of its include. Each file is
 /// read once for each time it is opened, to its end, before its statements are looked at. Refuses the first place that has a
-/// fault: a file that is too long (14, file bytes or total bytes), a token (2, 14), then each statement (14, 13, 3, then the
+/// fault: a file that is too long (14, file bytes or total bytes), a token (2, 14), then each statement (14, 3, then the
 /// least of 4 to 11, without 11 where heads may be of any form; an include 17, then 14, include depth); then all
 /// declarations together (12, then 14, domain values or ground constants).
 pub fn describe<D: Desk>(

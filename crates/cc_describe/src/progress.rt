@@ -224,7 +224,7 @@ fn add_definite(
         (IsRefusedBy (law_refusal file (vocabulary left) (plain_statement statement.now))) }
     ensures rest { progress.new ≡ record progress.old { laws = progress.new.laws } }
 {
-    let laws = expand(alloc, statement, file, &progress.table)?;
+    let laws = expand(alloc, file, &progress.table, statement)?;
     progress.laws.append(&mut laws.into_items())?;
     Ok(())
 }
@@ -245,7 +245,7 @@ fn add_wide(
         (IsRefusedBy (wide_refusal file (vocabulary left) (plain_statement statement.now))) }
     ensures rest { progress.new ≡ record progress.old { wide = progress.new.wide } }
 {
-    let laws = expand_wide(alloc, statement, file, &progress.table)?;
+    let laws = expand_wide(alloc, file, &progress.table, statement)?;
     progress.wide.append(&mut laws.into_items())?;
     Ok(())
 }
@@ -290,7 +290,7 @@ fn declare(
     ensures around { progress.new.around ≡ progress.old.around }
     ensures names { progress.new.names ≡ progress.old.names }
 {
-    cc_sorts::declare(statement, file, &mut progress.table)?;
+    progress.table.declare(file, statement)?;
     add_laws(alloc, statement, file, progress)
 }
 
@@ -315,7 +315,7 @@ fn ask<'t, 's>(
     if gives_taken_label(items, &progress.labels) {
         return Err(Fault::Refused(Refusal::at(4, file, statement.line)));
     }
-    let query = question(alloc, statement, file, &progress.table)?;
+    let query = question(alloc, file, &progress.table, statement)?;
     progress.keep(alloc, query)?;
     Ok(())
 }

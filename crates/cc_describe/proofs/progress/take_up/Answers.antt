@@ -1,8 +1,12 @@
 use Rattle.std.proofs.Common.{option_copied}
 use Rattle.cc_defs.specs.Trees.{plain_statement}
 use Rattle.cc_text.specs.Views.{token_views}
+use Rattle.cc_syntax.proofs.Readable.{readable}
 use Rattle.cc_describe.proofs.ProgressLemmas.{refused_by_text, refused_by_tree, taken_by_tree}
 use Rattle.cc_describe.proofs.progress.take_up.Goals as goal
+
+pub parse-requires-clause-are : goal.parse-requires-clause-are
+parse-requires-clause-are c = readable (token_views c.args.tokens.now) c.requires.are
 
 pub returns-in-Ok-clause-taken : goal.returns-in-Ok-clause-taken
 returns-in-Ok-clause-taken c = λ which before is.
