@@ -19,7 +19,8 @@ use Rattle.cc_wide.specs.WideForms.{HasWideForm, HaveWideForms}
 use Rattle.cc_describe.specs.declared.heads.Heads.{Heads}
 use Rattle.cc_describe.specs.declared.heads.Heads.TheVariants as heads
 use Rattle.cc_describe.specs.declared.description.Described.{Described}
-use Rattle.cc_describe.specs.Describing.{AsksFormulas, HasForms, HasWideForms, IsDescribed, asked_in, laws_at, queries_at, wide_at}
+use Rattle.cc_describe.specs.declared.description.DescribedWide.{DescribedWide}
+use Rattle.cc_describe.specs.Describing.{AsksFormulas, HasForms, HasWideForms, IsDescribed, IsDescribedWide, asked_in, laws_at, queries_at, wide_at}
 use Rattle.cc_describe.specs.FirstRefusal.{declared_at, declared_in, refusal_at, statement_refusal, first_behind}
 use Rattle.cc_describe.specs.Places.{Place, Opened, Barred, Said}
 use Rattle.cc_describe.proofs.PlacesAppended.{Gathers, declared_in_behind, gathers_laws, gathers_queries, gathers_wide}
@@ -150,10 +151,10 @@ pub has_forms : LawsHaveForms → ConstantsHaveForms → (which : Heads) (places
 has_forms of_laws of_constants which places described none is =
     of_table HasForm described.table is.laws is.table (all_behind which HasForm (gathers_laws which) (place_forms of_laws of_constants which) [] places none)
 
-pub has_wide_forms : WideLawsHaveForms → WideConstantsHaveForms → (which : Heads) (places : List Place) (described : Described) → first_behind which [] places ≡ None → IsDescribed which places described →
-    HasWideForms described
-has_wide_forms of_laws of_constants which places described none is =
-    of_table HasWideForm described.table is.wide is.table (all_behind which HasWideForm (gathers_wide which) (place_wide_forms of_laws of_constants which) [] places none)
+pub has_wide_forms : WideLawsHaveForms → WideConstantsHaveForms → (which : Heads) (places : List Place) (read : DescribedWide) → first_behind which [] places ≡ None → IsDescribedWide which places read →
+    HasWideForms read
+has_wide_forms of_laws of_constants which places read none is =
+    of_table HasWideForm read.described.table is.wide is.described.table (all_behind which HasWideForm (gathers_wide which) (place_wide_forms of_laws of_constants which) [] places none)
 
 pub asks_formulas : QueriesHaveFormulas → (which : Heads) (places : List Place) (described : Described) → first_behind which [] places ≡ None → IsDescribed which places described → AsksFormulas described
 asks_formulas of_queries which places described none is =

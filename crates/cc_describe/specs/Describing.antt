@@ -16,6 +16,7 @@ use Rattle.cc_sorts.specs.Tables.{IsTable, IsSignatureOf}
 use Rattle.cc_wide.specs.WideForms.{HaveWideForms}
 use Rattle.cc_wide.specs.WideLaws.{WideBase, plain_wide_base}
 use Rattle.cc_describe.specs.declared.description.Described.{Described}
+use Rattle.cc_describe.specs.declared.description.DescribedWide.{DescribedWide}
 use Rattle.cc_describe.specs.declared.description.DescribeStop.{DescribeStop}
 use Rattle.cc_describe.specs.declared.description.DescribeStop.TheVariants as stops
 use Rattle.cc_describe.specs.declared.heads.Heads.{Heads}
@@ -75,31 +76,48 @@ pub record IsDescribed (which : Heads) (places : List Place) (described : Descri
   pub table : IsTable described.table (declared_in places)
   pub signature : IsSignatureOf (declared_in places) described.sig
   pub laws : map plain_base_law described.laws ≡ laws_behind which [] places
-  pub wide : map plain_wide_base described.wide ≡ wide_behind which [] places
   pub queries : map plain_query described.queries ≡ queries_behind [] places
   pub names : described.files ≡ opened_in places
 
+-- so are the laws with heads of any form beside it
+pub record IsDescribedWide (which : Heads) (places : List Place) (read : DescribedWide) : Type 0 where
+  pub described : IsDescribed which places read.described
+  pub wide : map plain_wide_base read.wide ≡ wide_behind which [] places
+
+-- some places have no refusal, and this is what they say
+abbrev pub SaysBy : (which : Heads) → {T : Type 0} → (List Place → T → Type 0) → T → Type 0
+SaysBy which Is read = (places : List Place) × (first_refusal which places ≡ None) × Is places read
+
 -- Whatever the desk told: some places have no refusal, and this is what they say.
 abbrev pub SaysAll : Heads → Described → Type 0
-SaysAll which described = (places : List Place) × (first_refusal which places ≡ None) × IsDescribed which places described
+SaysAll which described = SaysBy which (IsDescribed which) described
+
+abbrev pub SaysAllWide : Heads → DescribedWide → Type 0
+SaysAllWide which read = SaysBy which (IsDescribedWide which) read
 
 -- its base laws have the forms of their kinds, at the declarations that its table is of
 abbrev pub HasForms : Described → Type 0
 HasForms described = (declarations : List Declaration) → IsTable described.table declarations → HaveForms (symbols declarations) (map plain_base_law described.laws)
 
--- and so have its laws with heads of any form
-abbrev pub HasWideForms : Described → Type 0
-HasWideForms described = (declarations : List Declaration) → IsTable described.table declarations → HaveWideForms (symbols declarations) (map plain_wide_base described.wide)
+-- and so have the laws with heads of any form beside it
+abbrev pub HasWideForms : DescribedWide → Type 0
+HasWideForms read = (declarations : List Declaration) → IsTable read.described.table declarations → HaveWideForms (symbols declarations) (map plain_wide_base read.wide)
 
 -- what its queries ask are formulas of these
 abbrev pub AsksFormulas : Described → Type 0
 AsksFormulas described = (declarations : List Declaration) → IsTable described.table declarations → AllByRecursion (HasFormulas (symbols declarations)) (map plain_query described.queries)
 
 -- the places of the description have no refusal, this is what they say, and its files are there
-abbrev pub Describes : Heads → Files → List ℕ → Described → Type 0
-Describes which files name described =
-    (places : List Place) × AreAllPlaces files name places × (first_refusal which places ≡ None) × IsDescribed which places described
+abbrev pub DescribesBy : (which : Heads) → {T : Type 0} → (List Place → T → Type 0) → Files → List ℕ → T → Type 0
+DescribesBy which Is files name read =
+    (places : List Place) × AreAllPlaces files name places × (first_refusal which places ≡ None) × Is places read
     × AreThere files (opened_in places)
+
+abbrev pub Describes : Heads → Files → List ℕ → Described → Type 0
+Describes which files name described = DescribesBy which (IsDescribed which) files name described
+
+abbrev pub DescribesWide : Heads → Files → List ℕ → DescribedWide → Type 0
+DescribesWide which files name read = DescribesBy which (IsDescribedWide which) files name read
 
 -- exactly the refusal of the places, before which all files are there; nothing is said of a fault of the desk or want of
 -- memory

@@ -8,5 +8,5 @@ mod labels;
 pub mod laws;
 mod progress;
 
-pub use description::{DescribeStop, Described, describe};
+pub use description::{DescribeStop, Described, DescribedWide, describe, describe_with};
 pub use heads::Heads;

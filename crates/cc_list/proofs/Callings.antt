@@ -2,7 +2,6 @@
 use Rattle.std.proofs.Common.{◌≡◌, ◌∙◌, refl, sym, ap, subst, ℕ, List, [], ◌∷◌, ◌++◌, map, Result, Ok, Err, append_assoc, append-nil, inl, inr}
 use Rattle.std.specs.Prelude.{◌⊎◌, IsErrOf}
 use Rattle.cc_defs.specs.declared.refusal.Refusal.{Refusal}
-use Rattle.cc_describe.specs.declared.description.Described.{Described}
 use Rattle.cc_describe.specs.declared.description.DescribeStop.{DescribeStop}
 use Rattle.cc_describe.specs.declared.description.DescribeStop.TheVariants as describe_stops
 use Rattle.cc_describe.specs.Describing.{AreFirstNames}
@@ -122,10 +121,7 @@ told_ends_nothing stop x y status tells = how tells.how
 pub called_reading : (x y : Moment) (more : List Call) → y.calls ≡ with_calls more x.calls → names_begun more ≡ [] → AreActs more → Called (names_opened more) [] x y
 called_reading x y more calls begun acts = record { more = more; calls = calls; opened_are = refl; begun_are = begun; acts = acts }
 
-abbrev stopped : DescribeStop → Result Described DescribeStop
-stopped stop = Err stop
-
-pub refused_is_no_fault : (stop : DescribeStop) (refusal : Refusal) (file : Text) → stop ≡ describe_stops.Refused refusal file → IsErrOf (stopped stop) describe_stops.ReadFault → ⊥
+pub refused_is_no_fault : {T : Type 0} (stop : DescribeStop) (refusal : Refusal) (file : Text) → stop ≡ describe_stops.Refused refusal file → IsErrOf {T = T} (Err stop) describe_stops.ReadFault → ⊥
 refused_is_no_fault stop refusal file is fault = cc
 
 abbrev unread : ReadStop → Result (List ℕ) ReadStop

@@ -9,7 +9,7 @@ use Rattle.cc_describe.specs.declared.description.DescribeStop.TheVariants as de
 use Rattle.cc_describe.specs.declared.description.DescribeStop.{DescribeStop}
 use Rattle.cc_describe.specs.declared.heads.Heads.{Heads}
 use Rattle.cc_describe.specs.declared.heads.Heads.TheVariants as heads
-use Rattle.cc_describe.specs.Describing.{AreFirstNames, AreToOpen, Describes, HasStopped, IsDescribed, OpensFor, SaysAll}
+use Rattle.cc_describe.specs.Describing.{AreFirstNames, AreToOpen, Describes, DescribesBy, HasStopped, IsDescribed, OpensFor, SaysAll, SaysBy}
 use Rattle.cc_describe.specs.FirstRefusal.{declared_in, file_named}
 use Rattle.cc_describe.specs.Places.{Files, Place}
 use Rattle.cc_ports.specs.Contents.{Contents}
@@ -28,19 +28,26 @@ description_is places described is = record {
 }
 
 -- some places say all of it, and they are those of the files that it is read from, where the desk tells these
-pub record IsRead (which : Heads) (o : Option Contents) (source : Files → Files) (name : Text) (described : Described) : Type 0 where
+pub record IsReadBy (which : Heads) {T : Type 0} (Is : List Place → T → Type 0) (o : Option Contents) (source : Files → Files) (name : Text) (said_all : T) : Type 0 where
   pub places : List Place
-  pub said : IsDescribed which places described
+  pub said : Is places said_all
   pub read : IfSome o (λ before. AreReadFor which (source before.files) name places)
 
-pub is_read : (which : Heads) (o : Option Contents) (source : Files → Files) (name : Text) (described : Described) → SaysAll which described →
-    IfSome o (λ before. Describes which (source before.files) name described) → IsRead which o source name described
-is_read which None source name described says describes = record { places = says.0; said = says.2; read = tt }
-is_read which (Some c) source name described says describes = record {
+pub is_read_by : (which : Heads) {T : Type 0} (Is : List Place → T → Type 0) (o : Option Contents) (source : Files → Files) (name : Text) (said_all : T) → SaysBy which Is said_all →
+    IfSome o (λ before. DescribesBy which Is (source before.files) name said_all) → IsReadBy which Is o source name said_all
+is_read_by which Is None source name said_all says describes = record { places = says.0; said = says.2; read = tt }
+is_read_by which Is (Some c) source name said_all says describes = record {
   places = describes.0;
   said = describes.3;
   read = record { all = describes.1; unrefused = describes.2; there = describes.4 };
 }
+
+abbrev pub IsRead : Heads → Option Contents → (Files → Files) → Text → Described → Type 0
+IsRead which o source name described = IsReadBy which (IsDescribed which) o source name described
+
+pub is_read : (which : Heads) (o : Option Contents) (source : Files → Files) (name : Text) (described : Described) → SaysAll which described →
+    IfSome o (λ before. Describes which (source before.files) name described) → IsRead which o source name described
+is_read which o source name described says describes = is_read_by which (IsDescribed which) o source name described says describes
 
 -- ---- what is listed
 
@@ -94,17 +101,17 @@ named_refused files by places described refusal file said read name (inr (q, nam
 
 -- ---- what is opened
 
-abbrev pub stopped : DescribeStop → Result Described DescribeStop
+abbrev pub stopped : {T : Type 0} → DescribeStop → Result T DescribeStop
 stopped stop = Err stop
 
-pub first_files : (which : Heads) (files : Files) (name : Text) (stop : DescribeStop) (names : List Text) → OpensFor which files name (stopped stop) names →
+pub first_files : {T : Type 0} (which : Heads) (files : Files) (name : Text) (stop : DescribeStop) (names : List Text) → OpensFor which files name (stopped {T = T} stop) names →
     (all : List Text) × AreToOpen which files name all × AreFirstNames names all
 first_files which files name (describe_stops.Refused refusal file) names are = (names, are, first_all names)
 first_files which files name describe_stops.ReadFault names are = are
 first_files which files name describe_stops.OutOfMemory names are = are
 
 -- the files of a description were opened, or the first of them
-pub first_named : (o : Option Contents) (which : Heads) (name : Text) (stop : DescribeStop) (names : List Text) → IfSome o (λ c. OpensFor which c.files name (stopped stop) names) →
+pub first_named : (o : Option Contents) (which : Heads) (name : Text) (stop : DescribeStop) (names : List Text) → IfSome o (λ c. OpensFor which c.files name (stopped {T = Described} stop) names) →
     (all : List Text) × AreFirstNames names all × IfSome o (λ c. AreToOpen which c.files name all)
 first_named None which name stop names opens = (names, first_all names, tt)
 first_named (Some c) which name stop names opens =

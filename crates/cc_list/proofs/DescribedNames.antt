@@ -4,6 +4,7 @@ use Rattle.cc_list.specs.Descriptions.{IsDescriptionOf, IsWideDescriptionOf}
 use Rattle.cc_defs.specs.Description.{Description}
 use Rattle.cc_defs.specs.Resolved.{plain_base_law}
 use Rattle.cc_describe.specs.declared.description.Described.{Described}
+use Rattle.cc_describe.specs.declared.description.DescribedWide.{DescribedWide}
 use Rattle.cc_tell.specs.Names.{AreNamesOf}
 use Rattle.cc_wide.specs.WideLaws.{WideDescription, frame}
 
@@ -20,8 +21,8 @@ pub laws_of : (described : Described) (d : Description) → IsDescriptionOf desc
 laws_of described d of = ap (λ (x : Description). x.laws) of.is
 
 -- those of the frame where heads may be of any form
-pub framed_names : (described : Described) (w : WideDescription) → IsWideDescriptionOf described w → AreNamesOf described.table described.sig (frame w)
-framed_names described w of = record {
+pub framed_names : (said : DescribedWide) (w : WideDescription) → IsWideDescriptionOf said w → AreNamesOf said.described.table said.described.sig (frame w)
+framed_names said w of = record {
   declarations = of.declarations;
   table_is = of.table;
   signature_is = of.signature;

@@ -6,6 +6,7 @@ use Rattle.cc_defs.specs.Description.{Description}
 use Rattle.cc_defs.specs.Resolved.{BaseLaw, Query, plain_base_law}
 use Rattle.cc_defs.specs.Universe.{universe}
 use Rattle.cc_describe.specs.declared.description.Described.{Described}
+use Rattle.cc_describe.specs.declared.description.DescribedWide.{DescribedWide}
 use Rattle.cc_ground.specs.Counting.{query_refusal}
 use Rattle.cc_sorts.specs.Tables.{IsTable, IsSignatureOf}
 use Rattle.cc_wide.specs.WideLaws.{WideBase, WideDescription, plain_wide_base}
@@ -26,11 +27,11 @@ abbrev pub wide_description_of : List Declaration → List WideBase → WideDesc
 wide_description_of declarations laws =
     record { objects = map (λ named. named.0) (objects declarations); universe = universe declarations; laws = laws }
 
-pub record IsWideDescriptionOf (described : Described) (w : WideDescription) : Type 0 where
+pub record IsWideDescriptionOf (said : DescribedWide) (w : WideDescription) : Type 0 where
   pub declarations : List Declaration
-  pub table : IsTable described.table declarations
-  pub signature : IsSignatureOf declarations described.sig
-  pub is : w ≡ wide_description_of declarations (map plain_wide_base described.wide)
+  pub table : IsTable said.described.table declarations
+  pub signature : IsSignatureOf declarations said.described.sig
+  pub is : w ≡ wide_description_of declarations (map plain_wide_base said.wide)
 
 -- the lists of values that a query's terms are judged by are too many, or its nodes
 abbrev pub ground_refusal_of : Description → Query → Option (ℕ × ℕ) → Option Refusal

@@ -16,7 +16,7 @@ use crate::searching::search;
 use bumpalo::Bump;
 use cc_arena::Terms;
 use cc_defs::Fault;
-use cc_describe::{DescribeStop, Described, Heads, describe};
+use cc_describe::{DescribeStop, Described, describe};
 use cc_ports::Desk;
 use cc_query::Ask;
 use cc_tell::{Status, Stop, Teller, begin_log, file_named, refuse};
@@ -110,7 +110,7 @@ pub fn list<D: Desk>(alloc: Global, desk: &mut D, asked: &ListAsked<'_>) -> Resu
     ensures { PrintsAsked (listing_promise (listing_by asked.now))
         (is_some (listing_by asked.now).log) (D.seen desk.old) (D.seen desk.new) result }
 {
-    match describe(alloc, desk, asked.file, Heads::Definite) {
+    match describe(alloc, desk, asked.file) {
         Ok(described) => {
             let answer = list_described(alloc, desk, &described, asked);
             drop(described);

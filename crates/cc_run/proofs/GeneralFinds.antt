@@ -6,7 +6,7 @@ use Rattle.cc_defs.specs.declared.refusal.Refusal.{Refusal}
 use Rattle.cc_defs.specs.GroundLaws.{PlainGroundQuery, StandsForQuery}
 use Rattle.cc_defs.specs.Resolved.{Query}
 use Rattle.cc_defs.specs.Signatures.{Signature}
-use Rattle.cc_describe.specs.declared.description.Described.{Described}
+use Rattle.cc_describe.specs.declared.description.DescribedWide.{DescribedWide}
 use Rattle.cc_general.specs.declared.event.GeneralEvent.{GeneralEvent}
 use Rattle.cc_general.specs.declared.event.GeneralEvent.TheVariants as events
 use Rattle.cc_general.specs.GeneralRuns.{GeneralRun, IsFairGeneral, ReachesGeneralLimit}
@@ -126,15 +126,15 @@ pub record ToldSoFar (w : WideDescription) (q : Query) (first : GeneralRun) (gen
   pub moves : Moves {X = Unit {0}} given old new (Ok tt)
   pub writes : IsWritableGeneral w q first → IsWritableGeneral w q run
 
-pub record IsTelling (described : Described) (start now : GeneralView) (old new : Moment) : Type 0 where
+pub record IsTelling (said : DescribedWide) (start now : GeneralView) (old new : Moment) : Type 0 where
   pub same : IsSame start now
   pub more : HasMore now
-  pub of : IsGeneralOfSome described now
-  pub each : (w : WideDescription) (q : Query) (run : GeneralRun) → IsWideDescriptionOf described w → IsGeneralOf start w q → Stands w q start run →
+  pub of : IsGeneralOfSome said now
+  pub each : (w : WideDescription) (q : Query) (run : GeneralRun) → IsWideDescriptionOf said w → IsGeneralOf start w q → Stands w q start run →
       ToldSoFar w q run now old new
 
-pub telling_begins : (described : Described) (start : GeneralView) (m : Moment) → HasMore start → IsGeneralOfSome described start → IsTelling described start start m m
-telling_begins described start m more of = record {
+pub telling_begins : (said : DescribedWide) (start : GeneralView) (m : Moment) → HasMore start → IsGeneralOfSome said start → IsTelling said start start m m
+telling_begins said start m more of = record {
   same = record { signature = refl; laws = refl; query = refl; count = refl; budget = refl };
   more = more;
   of = of;
@@ -164,13 +164,13 @@ same_both a b c first second = record {
 }
 
 -- what is told of the next event, of whatever it is about
-abbrev Tells : Described → GeneralView → GeneralView → Moment → Moment → Result (Option Status) Stop → Type 0
-Tells described now next old new r = (w : WideDescription) (q : Query) (run : GeneralRun) → IsWideDescriptionOf described w → IsGeneralOf now w q → Stands w q now run →
+abbrev Tells : DescribedWide → GeneralView → GeneralView → Moment → Moment → Result (Option Status) Stop → Type 0
+Tells said now next old new r = (w : WideDescription) (q : Query) (run : GeneralRun) → IsWideDescriptionOf said w → IsGeneralOf now w q → Stands w q now run →
     TellsGeneralEvent w q now.count now.budget run next old new r
 
-module _ (described : Described) (start now next : GeneralView) (old mid new : Moment) (r : Result (Option Status) Stop) (telling : IsTelling described start now old mid)
-    (tells : Tells described now next mid new r) where
-  module _ (w : WideDescription) (q : Query) (run : GeneralRun) (is : IsWideDescriptionOf described w) (general : IsGeneralOf start w q) (stands : Stands w q start run) where
+module _ (said : DescribedWide) (start now next : GeneralView) (old mid new : Moment) (r : Result (Option Status) Stop) (telling : IsTelling said start now old mid)
+    (tells : Tells said now next mid new r) where
+  module _ (w : WideDescription) (q : Query) (run : GeneralRun) (is : IsWideDescriptionOf said w) (general : IsGeneralOf start w q) (stands : Stands w q start run) where
     abbrev so_far : ToldSoFar w q run now old mid
     so_far = telling.each w q run is general stands
 
@@ -230,7 +230,7 @@ module _ (described : Described) (start now next : GeneralView) (old mid new : M
   abbrev done : Result (Option Status) Stop
   done = Ok none
 
-  pub telling_next : r ≡ Ok None → IsSame now next → HasMore next → IsTelling described start next old new
+  pub telling_next : r ≡ Ok None → IsSame now next → HasMore next → IsTelling said start next old new
   telling_next was same more = record {
     same = same_both start now next telling.same same;
     more = more;
@@ -238,7 +238,7 @@ module _ (described : Described) (start now next : GeneralView) (old mid new : M
     each = each;
   }
     where
-      there : IsGeneralOfSome described now → IsGeneralOfSome described next
+      there : IsGeneralOfSome said now → IsGeneralOfSome said next
       there (w, q, run, is, general, stands) =
           let event : TellsGeneralEvent w q now.count now.budget run next mid new done =
           subst (λ (t : Result (Option Status) Stop). TellsGeneralEvent w q now.count now.budget run next mid new t) was (tells w q run is general stands) in
@@ -249,7 +249,7 @@ module _ (described : Described) (start now next : GeneralView) (old mid new : M
       grown_bare w q run err None is how = ap (λ (e : List ℕ). record (generally_given w q run) { err = e }) how
       grown_bare w q run err (Some status) is how = absurd cc
 
-      each : (w : WideDescription) (q : Query) (run : GeneralRun) → IsWideDescriptionOf described w → IsGeneralOf start w q → Stands w q start run → ToldSoFar w q run next old new
+      each : (w : WideDescription) (q : Query) (run : GeneralRun) → IsWideDescriptionOf said w → IsGeneralOf start w q → Stands w q start run → ToldSoFar w q run next old new
       each w q run is general stands =
           let unit : Result (Unit {0}) Stop = Ok tt in
           let event : TellsGeneralEvent w q start.count start.budget (so_far w q run is general stands).run next mid new done =

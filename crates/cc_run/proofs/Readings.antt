@@ -7,11 +7,12 @@ use Rattle.cc_defs.specs.declared.refusal.Refusal.{Refusal}
 use Rattle.cc_defs.specs.Description.{Description}
 use Rattle.cc_defs.specs.Resolved.{Query, plain_query}
 use Rattle.cc_describe.specs.declared.description.Described.{Described}
+use Rattle.cc_describe.specs.declared.description.DescribedWide.{DescribedWide}
 use Rattle.cc_describe.specs.declared.description.DescribeStop.TheVariants as describe_stops
 use Rattle.cc_describe.specs.declared.description.DescribeStop.{DescribeStop}
 use Rattle.cc_describe.specs.declared.heads.Heads.{Heads}
 use Rattle.cc_describe.specs.declared.heads.Heads.TheVariants as heads
-use Rattle.cc_describe.specs.Describing.{AreFirstNames, AreToOpen, Describes, HasStopped, IsDescribed, OpensFor, SaysAll}
+use Rattle.cc_describe.specs.Describing.{AreFirstNames, AreToOpen, Describes, DescribesWide, HasStopped, IsDescribedWide, OpensFor, SaysAll, SaysAllWide}
 use Rattle.cc_describe.specs.FirstRefusal.{declared_in, file_named}
 use Rattle.cc_describe.specs.Places.{Files, Place}
 use Rattle.cc_list.proofs.Described.{IsRead, first_files, named_refused, stopped, stopped_refuses}
@@ -97,11 +98,11 @@ general_checking_by check = record { file = check.file.now; query = plain_text c
 
 -- ---- the description of places
 
-pub wide_description_is : (places : List Place) (described : Described) → IsDescribed heads.Any places described → IsWideDescriptionOf described (wide_in places)
-wide_description_is places described is = record {
+pub wide_description_is : (places : List Place) (said : DescribedWide) → IsDescribedWide heads.Any places said → IsWideDescriptionOf said (wide_in places)
+wide_description_is places said is = record {
   declarations = declared_in places;
-  table = is.table;
-  signature = is.signature;
+  table = is.described.table;
+  signature = is.described.signature;
   is = ap (wide_description_of (declared_in places)) (sym is.wide);
 }
 
@@ -115,14 +116,31 @@ pub describes_as : (o : Option Contents) (a b : Request) (described : Described)
     IfSome o (λ before. Describes (heads_of a) (source_of a before.files) (named_of a).file described)
 describes_as o a b described same is = subst (λ (r : Request). IfSome o (λ before. Describes (heads_of r) (source_of r before.files) (named_of r).file described)) (sym same) is
 
+pub describes_wide_as : (o : Option Contents) (a b : Request) (said : DescribedWide) → a ≡ b →
+    IfSome o (λ before. DescribesWide (heads_of b) (source_of b before.files) (named_of b).file said) →
+    IfSome o (λ before. DescribesWide (heads_of a) (source_of a before.files) (named_of a).file said)
+describes_wide_as o a b said same is = subst (λ (r : Request). IfSome o (λ before. DescribesWide (heads_of r) (source_of r before.files) (named_of r).file said)) (sym same) is
+
+-- the same without the laws with heads of any form
+pub describes_bare : (o : Option Contents) (request : Request) (said : DescribedWide) →
+    IfSome o (λ before. DescribesWide (heads_of request) (source_of request before.files) (named_of request).file said) →
+    IfSome o (λ before. Describes (heads_of request) (source_of request before.files) (named_of request).file said.described)
+describes_bare o request said is =
+    known o (λ before. DescribesWide (heads_of request) (source_of request before.files) (named_of request).file said)
+    (λ before. Describes (heads_of request) (source_of request before.files) (named_of request).file said.described)
+    (λ before all. (all.0, all.1, all.2, all.3.described, all.4)) is
+
 -- the same for the heads that are meant
 pub describes_for : (which : Heads) (o : Option Contents) (request : Request) (described : Described) → heads_of request ≡ which →
     IfSome o (λ before. Describes (heads_of request) (source_of request before.files) (named_of request).file described) →
     IfSome o (λ before. Describes which (source_of request before.files) (named_of request).file described)
 describes_for which o request described same is = subst (λ (h : Heads). IfSome o (λ before. Describes h (source_of request before.files) (named_of request).file described)) same is
 
-pub says_as : (a b : Asked) (described : Described) → a ≡ b → SaysAll (heads_of (plain_request a)) described → SaysAll (heads_of (plain_request b)) described
-says_as a b described same says = subst (λ (asked : Asked). SaysAll (heads_of (plain_request asked)) described) same says
+pub says_wide_as : (a b : Asked) (said : DescribedWide) → a ≡ b → SaysAllWide (heads_of (plain_request a)) said → SaysAllWide (heads_of (plain_request b)) said
+says_wide_as a b said same says = subst (λ (asked : Asked). SaysAllWide (heads_of (plain_request asked)) said) same says
+
+pub says_as : (a b : Asked) (said : DescribedWide) → a ≡ b → SaysAllWide (heads_of (plain_request a)) said → SaysAll (heads_of (plain_request b)) said.described
+says_as a b said same says = let all = says_wide_as a b said same says in (all.0, all.1, all.2.described)
 
 -- the same for what is asked for, by what the program has
 pub prints_for : (a b : Request) (begins : Bool) (opens : List Text) (x z : Moment) (r : Result Status Stop) → a ≡ b → Prints (promise_of a) begins opens x z r →
@@ -211,7 +229,7 @@ abbrev pub OpenedAll : Request → Option Contents → List Text → Type 0
 OpenedAll request o opened = IfSome o (λ before. (promise_of request).Opens before.files (opened ++ opens_behind request))
 
 -- where these are all files of a description, they are all that its request opens
-opens_all : (files : Files) (request : Request) (r : Result Described DescribeStop) (opened : List Text) → AsksDescription request →
+opens_all : (files : Files) (request : Request) (r : Result DescribedWide DescribeStop) (opened : List Text) → AsksDescription request →
     ((which : Heads) (name : Text) → OpensFor which files name r opened → AreToOpen which files name opened) → OpensDescription request files r opened →
     (promise_of request).Opens files (opened ++ opens_behind request)
 opens_all files (ToList listing) r opened asks all are = absurd asks
@@ -227,18 +245,18 @@ opens_all files (ToCheckSure checking) r opened asks all are = (opened, all head
 opens_all files (ToListGenerally generally) r opened asks all are = subst (AreToOpen heads.Any files generally.file) (sym (append-nil opened)) (all heads.Any generally.file are)
 opens_all files (ToCheckGeneral checking) r opened asks all are = (opened, all heads.Any checking.file are, refl)
 
-pub opened_all : (o : Option Contents) (request : Request) (described : Described) (opened : List Text) → AsksDescription request →
+pub opened_all : (o : Option Contents) (request : Request) (described : DescribedWide) (opened : List Text) → AsksDescription request →
     IfSome o (λ before. OpensDescription request before.files (Ok described) opened) → OpenedAll request o opened
 opened_all o request described opened asks =
     known o (λ before. OpensDescription request before.files (Ok described) opened) (λ before. (promise_of request).Opens before.files (opened ++ opens_behind request))
     (λ before are. opens_all before.files request (Ok described) opened asks (λ which name is. is) are)
 
 pub opened_refused : (o : Option Contents) (request : Request) (refusal : Refusal) (file : Text) (opened : List Text) → AsksDescription request →
-    IfSome o (λ before. OpensDescription request before.files (stopped (describe_stops.Refused refusal file)) opened) → OpenedAll request o opened
+    IfSome o (λ before. OpensDescription request before.files (stopped {T = DescribedWide} (describe_stops.Refused refusal file)) opened) → OpenedAll request o opened
 opened_refused o request refusal file opened asks =
-    known o (λ before. OpensDescription request before.files (stopped (describe_stops.Refused refusal file)) opened)
+    known o (λ before. OpensDescription request before.files (stopped {T = DescribedWide} (describe_stops.Refused refusal file)) opened)
     (λ before. (promise_of request).Opens before.files (opened ++ opens_behind request))
-    (λ before are. opens_all before.files request (stopped (describe_stops.Refused refusal file)) opened asks (λ which name is. is) are)
+    (λ before are. opens_all before.files request (stopped {T = DescribedWide} (describe_stops.Refused refusal file)) opened asks (λ which name is. is) are)
 
 -- names of which these are the first, which are those that the request opens
 pub record AreFirstOf (o : Option Contents) (request : Request) (names : List Text) : Type 0 where
@@ -247,13 +265,13 @@ pub record AreFirstOf (o : Option Contents) (request : Request) (names : List Te
   pub are : IfSome o (λ c. (promise_of request).Opens c.files all)
 
 -- those of a description, with a log behind them
-first_behind : (which : Heads) (files : Files) (name log : Text) (stop : DescribeStop) (names : List Text) → OpensFor which files name (stopped stop) names →
+first_behind : (which : Heads) (files : Files) (name log : Text) (stop : DescribeStop) (names : List Text) → OpensFor which files name (stopped {T = DescribedWide} stop) names →
     (all : List Text) × ((named : List Text) × AreToOpen which files name named × (all ≡ named ++ log ∷ [])) × AreFirstNames names all
 first_behind which files name log stop names are =
     let there = first_files which files name stop names are in
     (there.0 ++ log ∷ [], (there.0, there.1, refl), first_longer names there.0 (log ∷ []) there.2)
 
-first_in : (files : Files) (request : Request) (stop : DescribeStop) (names : List Text) → AsksDescription request → OpensDescription request files (stopped stop) names →
+first_in : (files : Files) (request : Request) (stop : DescribeStop) (names : List Text) → AsksDescription request → OpensDescription request files (stopped {T = DescribedWide} stop) names →
     (all : List Text) × (promise_of request).Opens files all × AreFirstNames names all
 first_in files (ToList listing) stop names asks are = absurd asks
 first_in files (ToCheck checking) stop names asks are = first_behind heads.Definite files checking.file checking.log stop names are
@@ -268,7 +286,7 @@ first_in files (ToCheckSure checking) stop names asks are = first_behind heads.D
 first_in files (ToListGenerally generally) stop names asks are = first_files heads.Any files generally.file stop names are
 first_in files (ToCheckGeneral checking) stop names asks are = first_behind heads.Any files checking.file checking.log stop names are
 
-pub first_of : (o : Option Contents) (request : Request) (stop : DescribeStop) (names : List Text) → AsksDescription request → IfSome o (λ c. OpensDescription request c.files (stopped stop) names) →
+pub first_of : (o : Option Contents) (request : Request) (stop : DescribeStop) (names : List Text) → AsksDescription request → IfSome o (λ c. OpensDescription request c.files (stopped {T = DescribedWide} stop) names) →
     AreFirstOf o request names
 first_of None request stop names asks opens = record { all = names; first = first_all names; are = tt }
 first_of (Some c) request stop names asks opens =
@@ -278,7 +296,7 @@ first_of (Some c) request stop names asks opens =
 -- ---- what was read
 
 abbrev Outcome : Type 0
-Outcome = Result Described DescribeStop
+Outcome = Result DescribedWide DescribeStop
 
 opens_file : (o : Option Contents) (request : Request) (file : Text) (r : Outcome) (names : List Text) → IsFileOf request file → IfSome o (λ c. OpensFor (heads_of request) c.files file r names) →
     IfSome o (λ c. OpensDescription request c.files r names)
@@ -326,7 +344,7 @@ file_as a b file same is = subst (λ (asked : Asked). IsFileOf (plain_request as
 
 -- a description was read from the file that is named
 pub reads_file : (which : Heads) (request : Request) (file : Text) (r : Outcome) (x y : Moment) → which ≡ heads_of request → IsFileOf request file →
-    IfSome x.told (λ c. IfOk r (Describes which c.files file)) → IfSome x.told (λ c. IfErr r (HasStopped which c.files file)) →
+    IfSome x.told (λ c. IfOk r (DescribesWide which c.files file)) → IfSome x.told (λ c. IfErr r (HasStopped which c.files file)) →
     (IsErrOf r describe_stops.ReadFault → Rose x.reads y.reads) → ((rest : List ℕ) × (y.told ≡ option_map (with_rest rest) x.told)) → y.begun ≡ x.begun →
     ((more : List Call) × (y.calls ≡ with_calls more x.calls) × (names_begun more ≡ []) × IfSome x.told (λ c. OpensFor which c.files file r (names_opened more)) × AreActs more) →
     ((IsErrOf r describe_stops.ReadFault → ⊥) → IsCalm x y) → x.reads ≤ y.reads → x.writes ≤ y.writes → Reads request r x y
@@ -340,7 +358,7 @@ reads_file which request file r x y same is described refused failed after begun
   called = called_reading x y calls.0 calls.1 calls.2 calls.4;
   opens = opens_file x.told request file r (names_opened calls.0) is
       (subst (λ (h : Heads). IfSome x.told (λ c. OpensFor h c.files file r (names_opened calls.0))) same calls.3);
-  describes = at_file (λ (h : Heads) (files : Files) (name : Text). IfOk r (Describes h files name)) x.told which request file same is described;
+  describes = at_file (λ (h : Heads) (files : Files) (name : Text). IfOk r (DescribesWide h files name)) x.told which request file same is described;
   stopped = at_file (λ (h : Heads) (files : Files) (name : Text). IfErr r (HasStopped h files name)) x.told which request file same is refused;
   failed = failed;
   calm = calm;
@@ -352,7 +370,7 @@ whatever (Some c) p = p
 
 -- a made description was read
 pub reads_made : (which : Heads) (files : Files) (size budget : ℕ) (r : Outcome) (m : Moment) → which ≡ heads.Definite → files ≡ made_files size →
-    IfOk r (Describes which files made_named.file) → IfErr r (HasStopped which files made_named.file) → (IsErrOf r describe_stops.ReadFault → ⊥) →
+    IfOk r (DescribesWide which files made_named.file) → IfErr r (HasStopped which files made_named.file) → (IsErrOf r describe_stops.ReadFault → ⊥) →
     Reads (ToMake size budget) r m m
 reads_made which files size budget r m definite made described refused failed =
     let same = same_told m.told in
@@ -365,7 +383,7 @@ reads_made which files size budget r m definite made described refused failed =
       opened = [];
       called = called_none m;
       opens = whatever m.told refl;
-      describes = whatever m.told (as_made (λ h files. IfOk r (Describes h files made_named.file)) described);
+      describes = whatever m.told (as_made (λ h files. IfOk r (DescribesWide h files made_named.file)) described);
       stopped = whatever m.told (as_made (λ h files. IfErr r (HasStopped h files made_named.file)) refused);
       failed = λ is. absurd (failed is);
       calm = λ _. (refl, refl);

@@ -13,12 +13,13 @@ use Rattle.cc_defs.specs.GroundLaws.{PlainGroundQuery, StandsForQuery}
 use Rattle.cc_defs.specs.Refusals.{IsRefusedBy}
 use Rattle.cc_defs.specs.Resolved.{Query, plain_base_law, plain_query}
 use Rattle.cc_defs.specs.Universe.{universe}
-use Rattle.cc_describe.specs.declared.description.Described.{Described}
+use Rattle.cc_describe.specs.declared.description.DescribedWide.{DescribedWide}
 use Rattle.cc_describe.specs.declared.heads.Heads.TheVariants as heads
+use Rattle.cc_describe.specs.Describing.{IsDescribedWide}
 use Rattle.cc_describe.specs.FirstRefusal.{file_named}
 use Rattle.cc_describe.specs.Places.{Files}
 use Rattle.cc_laws.specs.Questions.{steps_refusal}
-use Rattle.cc_list.proofs.Described.{IsRead}
+use Rattle.cc_list.proofs.Described.{IsReadBy}
 use Rattle.cc_ports.specs.Contents.{Contents}
 use Rattle.cc_run.specs.Generals.{IsWideFault, IsWideUnclaimed}
 use Rattle.cc_run.specs.Modes.Generally.{NamesWide, RefusesGenerally, wide_asked_refusal, wide_in}
@@ -33,11 +34,11 @@ use Rattle.cc_list.proofs.Outcomes.{known}
 
 -- ---- the description without laws with heads of any form: a query of it is one of the frame
 
-module _ (described : Described) (w : WideDescription) (is : IsWideDescriptionOf described w) where
+module _ (said : DescribedWide) (w : WideDescription) (is : IsWideDescriptionOf said w) where
   abbrev pub bare : Description
-  bare = description_of is.declarations (map plain_base_law described.laws)
+  bare = description_of is.declarations (map plain_base_law said.described.laws)
 
-  pub bare_is : IsDescriptionOf described bare
+  pub bare_is : IsDescriptionOf said.described bare
   bare_is = record { declarations = is.declarations; table = is.table; signature = is.signature; is = refl }
 
   pub stands_framed : (made : PlainGroundQuery) (q : Query) → StandsForQuery made bare q → StandsForQuery made (frame w) q
@@ -47,11 +48,11 @@ module _ (described : Described) (w : WideDescription) (is : IsWideDescriptionOf
   refusal_framed named = subst (λ (x : WideDescription). query_refusal bare named ≡ query_refusal (frame x) named) (sym is.is) (same named)
     where
       nodes : (q : Query) (range : Option (ℕ × ℕ)) →
-          ground_refusal_of bare q range ≡ ground_refusal_of (frame (wide_description_of is.declarations (map plain_wide_base described.wide))) q range
+          ground_refusal_of bare q range ≡ ground_refusal_of (frame (wide_description_of is.declarations (map plain_wide_base said.wide))) q range
       nodes q None = refl
       nodes q (Some range) = refl
 
-      same : (named : Option Query) → query_refusal bare named ≡ query_refusal (frame (wide_description_of is.declarations (map plain_wide_base described.wide))) named
+      same : (named : Option Query) → query_refusal bare named ≡ query_refusal (frame (wide_description_of is.declarations (map plain_wide_base said.wide))) named
       same None = refl
       same (Some q) = ap (λ r. option_or (steps_refusal (universe is.declarations).symbols q) r) (nodes q q.range)
 
@@ -105,9 +106,9 @@ module _ (w : WideDescription) (queries : List Query) (label : Option Text) wher
 
 -- ---- by the places of a description
 
-module _ (o : Option Contents) (by : Named) (described : Described) (of : IsRead heads.Any o (λ files. files) by.file described) where
+module _ (o : Option Contents) (by : Named) (said : DescribedWide) (of : IsReadBy heads.Any (IsDescribedWide heads.Any) o (λ files. files) by.file said) where
   -- what is named has no claim
-  pub names_wide : (q : Query) → IsWideUnclaimed (wide_in of.places) (map plain_query described.queries) by.query q →
+  pub names_wide : (q : Query) → IsWideUnclaimed (wide_in of.places) (map plain_query said.described.queries) by.query q →
       IfSome o (λ before. NamesWide before.files by (wide_in of.places) q)
   names_wide q is =
       known o (λ before. AreReadFor heads.Any before.files by.file of.places) (λ before. NamesWide before.files by (wide_in of.places) q)
@@ -115,32 +116,32 @@ module _ (o : Option Contents) (by : Named) (described : Described) (of : IsRead
         places = of.places;
         read = read;
         description = refl;
-        query = subst (λ (queries : List Query). query_named by.query queries ≡ Some q) of.said.queries is.query;
+        query = subst (λ (queries : List Query). query_named by.query queries ≡ Some q) of.said.described.queries is.query;
         unrefused = is.unrefused;
         claim = is.claim;
       }) of.read
 
-  refuses_of : (files : Files) (refusal : Refusal) (file : Text) → AreReadFor heads.Any files by.file of.places → file ≡ file_named described.files refusal →
-      IsWideFault (wide_in of.places) (map plain_query described.queries) by.query (faults.Refused refusal) → RefusesGenerally files by refusal file
+  refuses_of : (files : Files) (refusal : Refusal) (file : Text) → AreReadFor heads.Any files by.file of.places → file ≡ file_named said.described.files refusal →
+      IsWideFault (wide_in of.places) (map plain_query said.described.queries) by.query (faults.Refused refusal) → RefusesGenerally files by refusal file
   refuses_of files refusal file read name (inl refused) = inr (inl (record {
     places = of.places;
     read = read;
-    refused = subst (λ (queries : List Query). wide_asked_refusal (wide_in of.places) (query_named by.query queries) ≡ Some refusal) of.said.queries refused;
-    name = name ∙ ap (λ names. file_named names refusal) of.said.names;
+    refused = subst (λ (queries : List Query). wide_asked_refusal (wide_in of.places) (query_named by.query queries) ≡ Some refusal) of.said.described.queries refused;
+    name = name ∙ ap (λ names. file_named names refusal) of.said.described.names;
   }))
   refuses_of files refusal file read name (inr (q, named, unrefused, claim, same)) = inr (inr (record {
     places = of.places;
     read = read;
     query = q;
-    named_is = subst (λ (queries : List Query). query_named by.query queries ≡ Some q) of.said.queries named;
+    named_is = subst (λ (queries : List Query). query_named by.query queries ≡ Some q) of.said.described.queries named;
     unrefused = unrefused;
     claim = claim;
     refused = same;
-    name = name ∙ ap (λ names. file_named names refusal) of.said.names;
+    name = name ∙ ap (λ names. file_named names refusal) of.said.described.names;
   }))
 
-  pub refuses_generally : (refusal : Refusal) (file : Text) → file ≡ file_named described.files refusal →
-      IsWideFault (wide_in of.places) (map plain_query described.queries) by.query (faults.Refused refusal) →
+  pub refuses_generally : (refusal : Refusal) (file : Text) → file ≡ file_named said.described.files refusal →
+      IsWideFault (wide_in of.places) (map plain_query said.described.queries) by.query (faults.Refused refusal) →
       IfSome o (λ before. RefusesGenerally before.files by refusal file)
   refuses_generally refusal file name fault =
       known o (λ before. AreReadFor heads.Any before.files by.file of.places) (λ before. RefusesGenerally before.files by refusal file)

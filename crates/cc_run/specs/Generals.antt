@@ -9,6 +9,7 @@ use Rattle.cc_defs.specs.Limits.{most_steps}
 use Rattle.cc_defs.specs.Resolved.{Query}
 use Rattle.cc_defs.specs.Signatures.{Signature}
 use Rattle.cc_describe.specs.declared.description.Described.{Described}
+use Rattle.cc_describe.specs.declared.description.DescribedWide.{DescribedWide}
 use Rattle.cc_form.specs.Queries.{IsQueryAt}
 use Rattle.cc_general.specs.Accepted.{IsWritableShown}
 use Rattle.cc_general.specs.GeneralRuns.{GeneralRun, IsFairGeneral, general_horizon}
@@ -94,8 +95,8 @@ pub record TellsGenerally (w : WideDescription) (q : Query) (count : Option ℕ)
   pub writable : IsWritableGeneral w q run
 
 -- there are a description and a query that it is about, and a run that it stands for
-abbrev pub IsGeneralOfSome : Described → GeneralView → Type 0
-IsGeneralOfSome described general = (w : WideDescription) × (q : Query) × (run : GeneralRun) × IsWideDescriptionOf described w × IsGeneralOf general w q × Stands w q general run
+abbrev pub IsGeneralOfSome : DescribedWide → GeneralView → Type 0
+IsGeneralOfSome said general = (w : WideDescription) × (q : Query) × (run : GeneralRun) × IsWideDescriptionOf said w × IsGeneralOf general w q × Stands w q general run
 
 -- what is prepared stands for laws and a query of a description
 abbrev pub StandsForWide : Described → PreparedWide → WideDescription → Query → Type 0

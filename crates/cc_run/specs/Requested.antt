@@ -1,11 +1,11 @@
 -- What a request works on, mode by mode, and what was read for it.
 use Rattle.std.specs.Prelude.{◌≡◌, ℕ, ◌≤◌, List, [], ◌∷◌, Result, IfSome, IfOk, IfErr, IsErrOf, option_map}
-use Rattle.cc_describe.specs.declared.description.Described.{Described}
+use Rattle.cc_describe.specs.declared.description.DescribedWide.{DescribedWide}
 use Rattle.cc_describe.specs.declared.description.DescribeStop.{DescribeStop}
 use Rattle.cc_describe.specs.declared.description.DescribeStop.TheVariants as stops
 use Rattle.cc_describe.specs.declared.heads.Heads.{Heads}
 use Rattle.cc_describe.specs.declared.heads.Heads.TheVariants as heads
-use Rattle.cc_describe.specs.Describing.{Describes, HasStopped, OpensFor}
+use Rattle.cc_describe.specs.Describing.{DescribesWide, HasStopped, OpensFor}
 use Rattle.cc_describe.specs.Places.{Files}
 use Rattle.cc_ports.specs.Contents.{Rose, with_rest}
 use Rattle.cc_ports.specs.Moments.{Moment}
@@ -117,7 +117,7 @@ opens_behind (ToListGenerally generally) = []
 opens_behind (ToCheckGeneral checking) = checking.log ∷ []
 
 -- these files are opened to read the description
-abbrev pub OpensDescription : Request → Files → Result Described DescribeStop → List Text → Type 0
+abbrev pub OpensDescription : Request → Files → Result DescribedWide DescribeStop → List Text → Type 0
 OpensDescription (ToList listing) files described names = OpensFor heads.Definite files listing.file described names
 OpensDescription (ToCheck checking) files described names = OpensFor heads.Definite files checking.file described names
 OpensDescription (ToMake size budget) files described names = names ≡ []
@@ -132,7 +132,7 @@ OpensDescription (ToListGenerally generally) files described names = OpensFor he
 OpensDescription (ToCheckGeneral checking) files described names = OpensFor heads.Any files checking.file described names
 
 -- the description of a request was read, or it was not
-pub record Reads (request : Request) (described : Result Described DescribeStop) (old new : Moment) : Type 0 where
+pub record Reads (request : Request) (described : Result DescribedWide DescribeStop) (old new : Moment) : Type 0 where
   pub rest : List ℕ
   pub told : new.told ≡ option_map (with_rest rest) old.told
   pub begun : new.begun ≡ old.begun
@@ -141,7 +141,7 @@ pub record Reads (request : Request) (described : Result Described DescribeStop)
   pub opened : List Text
   pub called : Called opened [] old new
   pub opens : IfSome old.told (λ before. OpensDescription request before.files described opened)
-  pub describes : IfSome old.told (λ before. IfOk described (Describes (heads_of request) (source_of request before.files) (named_of request).file))
+  pub describes : IfSome old.told (λ before. IfOk described (DescribesWide (heads_of request) (source_of request before.files) (named_of request).file))
   pub stopped : IfSome old.told (λ before. IfErr described (HasStopped (heads_of request) (source_of request before.files) (named_of request).file))
   pub failed : IsErrOf described stops.ReadFault → Rose old.reads new.reads
   pub calm : (IsErrOf described stops.ReadFault → ⊥) → IsCalm old new

@@ -4,7 +4,7 @@ ghost use Rattle.cc_list.specs.Descriptions.{IsDescriptionOf};
 ghost use Rattle.cc_defs.specs.Description.{Description};
 ghost use Rattle.cc_defs.specs.Resolved.{Query};
 ghost use Rattle.cc_describe.specs.declared.heads.Heads.TheVariants as heads;
-ghost use Rattle.cc_describe.specs.Describing.{Describes, SaysAll, AsksFormulas, HasForms, HasWideForms};
+ghost use Rattle.cc_describe.specs.Describing.{AsksFormulas, Describes, DescribesWide, HasForms, HasWideForms, SaysAll, SaysAllWide};
 ghost use Rattle.cc_ports.specs.Calls.{AreActs, Call, names_begun, names_opened, with_calls};
 ghost use Rattle.cc_ports.specs.Contents.{Rose};
 ghost use Rattle.cc_ports.specs.Moments.{Moment};
@@ -31,7 +31,7 @@ use bumpalo::Bump;
 use cc_arena::Terms;
 use cc_defs::{Fault, Refusal};
 use cc_describe::laws::has_places;
-use cc_describe::{DescribeStop, Described, Heads, describe};
+use cc_describe::{DescribeStop, Described, DescribedWide, Heads, describe_with};
 use cc_list::{Prepared, list, prepare};
 use cc_make::{TextDesk, make_text};
 use cc_ports::{Desk, Files, StillDesk};
@@ -159,8 +159,8 @@ fn answer_file<D: Desk>(
         (names_log (promise_of (plain_request asked.now))) (D.seen desk.old) (D.seen desk.new)
         result }
 {
-    let described = describe(alloc, desk, file, heads_of(asked));
-    answer_described(alloc, desk, asked, described)
+    let said = describe_with(alloc, desk, file, heads_of(asked));
+    answer_described(alloc, desk, asked, said)
 }
 
 /// The answer to words that ask for a made description of a size.
@@ -180,8 +180,8 @@ fn answer_made<D: Desk>(
 {
     let text = make_text(alloc, size)?;
     let mut source = TextDesk::of(text.text().as_bytes());
-    let described = describe(alloc, &mut source, MADE, heads_of(asked));
-    answer_described(alloc, desk, asked, described)
+    let said = describe_with(alloc, &mut source, MADE, heads_of(asked));
+    answer_described(alloc, desk, asked, said)
 }
 
 /// The answer once the description was read, or was not.
@@ -189,23 +189,23 @@ fn answer_described<D: Desk>(
     alloc: Global,
     desk: &mut D,
     asked: &Asked<'_>,
-    described: Result<Described, DescribeStop>,
+    said: Result<DescribedWide, DescribeStop>,
 ) -> Result<Status, Stop>
     requires within { IsWithin (plain_request asked.now) }
     requires description { AsksDescription (plain_request asked.now) }
-    requires says { IfOk described (SaysAll (requested.heads_of (plain_request asked.now))) }
-    requires forms { IfOk described HasForms }
-    requires wide_forms { IfOk described HasWideForms }
-    requires formulas { IfOk described AsksFormulas }
+    requires says { IfOk said (SaysAllWide (requested.heads_of (plain_request asked.now))) }
+    requires forms { IfOk said (λ all. HasForms all.described) }
+    requires wide_forms { IfOk said HasWideForms }
+    requires formulas { IfOk said (λ all. AsksFormulas all.described) }
     ensures { (request : Request) (earlier : Moment) → plain_request asked.now ≡ request →
-        Reads request described earlier (D.seen desk.old) →
+        Reads request said earlier (D.seen desk.old) →
         PrintsAsked (promise_of request) (names_log (promise_of request)) earlier
         (D.seen desk.new) result }
 {
-    match described {
-        Ok(described) => {
-            let answer = answer_read(alloc, desk, asked, &described);
-            drop(described);
+    match said {
+        Ok(said) => {
+            let answer = answer_read(alloc, desk, asked, &said);
+            drop(said);
             answer
         }
         Err(DescribeStop::Refused { refusal, file }) => refuse(alloc, desk, &refusal, file.text()),
@@ -219,20 +219,21 @@ fn answer_read<D: Desk>(
     alloc: Global,
     desk: &mut D,
     asked: &Asked<'_>,
-    described: &Described,
+    said: &DescribedWide,
 ) -> Result<Status, Stop>
     requires within { IsWithin (plain_request asked.now) }
     requires description { AsksDescription (plain_request asked.now) }
-    requires says { SaysAll (requested.heads_of (plain_request asked.now)) described.now }
-    requires forms { HasForms described.now }
-    requires wide_forms { HasWideForms described.now }
-    requires formulas { AsksFormulas described.now }
+    requires says { SaysAllWide (requested.heads_of (plain_request asked.now)) said.now }
+    requires forms { HasForms said.now.described }
+    requires wide_forms { HasWideForms said.now }
+    requires formulas { AsksFormulas said.now.described }
     ensures { (request : Request) → plain_request asked.now ≡ request → IfSome (D.seen desk.old).told
-        (λ before. Describes (requested.heads_of request) (source_of request before.files)
-        (named_of request).file described.now) → Prints (promise_of request)
+        (λ before. DescribesWide (requested.heads_of request) (source_of request before.files)
+        (named_of request).file said.now) → Prints (promise_of request)
         (names_log (promise_of request)) (opens_behind request) (D.seen desk.old)
         (D.seen desk.new) result }
 {
+    let described = &said.described;
     match asked {
         Asked::Explain(explain) => why::explain(alloc, desk, described, explain.key),
         Asked::Check(_) => answer_query(alloc, desk, asked, described),
@@ -241,8 +242,8 @@ fn answer_read<D: Desk>(
         Asked::Export(export) => export::export(alloc, desk, described, export),
         Asked::Sure(sure) => sure::sure(alloc, desk, described, sure),
         Asked::CheckSure(check) => sure_check::check(alloc, desk, described, check),
-        Asked::General(asked) => general::general(alloc, desk, described, asked),
-        Asked::CheckGeneral(check) => general_check::check(alloc, desk, described, check),
+        Asked::General(asked) => general::general(alloc, desk, said, asked),
+        Asked::CheckGeneral(check) => general_check::check(alloc, desk, said, check),
         Asked::List(_) => unreachable!(),
         Asked::Models(_) => unreachable!(),
         Asked::CheckModels(_) => unreachable!(),

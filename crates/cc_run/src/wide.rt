@@ -14,7 +14,7 @@ use crate::unclaimed::claim_named;
 use crate::wide_laws::wide_laws_of;
 use cc_arena::{GroundQuery, Terms};
 use cc_defs::Fault;
-use cc_describe::Described;
+use cc_describe::DescribedWide;
 use cc_list::query_asked;
 use cc_wide::WideGround;
 use std::alloc::Global;
@@ -31,26 +31,26 @@ pub(crate) struct PreparedWide<'a> {
 /// of the query (14), and a query with a claim (20), in this order.
 pub(crate) fn prepare_wide<'a>(
     alloc: Global,
-    described: &Described,
+    said: &DescribedWide,
     label: Option<&str>,
     terms: &Terms<'a>,
 ) -> Result<PreparedWide<'a>, Fault>
-    requires signature { IsSignatureFor described.now.table described.now.sig }
-    requires forms { HasWideForms described.now }
-    requires formulas { AsksFormulas described.now }
-    requires of { (w : WideDescription) × IsWideDescriptionOf described.now w }
+    requires signature { IsSignatureFor said.now.described.table said.now.described.sig }
+    requires forms { HasWideForms said.now }
+    requires formulas { AsksFormulas said.now.described }
+    requires of { (w : WideDescription) × IsWideDescriptionOf said.now w }
     ensures searchable { IfOk result (λ made.
-        IsSearchableWide described.now made) }
-    ensures named { (w : WideDescription) → IsWideDescriptionOf described.now w →
-        IfOk result (λ made. (q : QueryAsked) × StandsForWide described.now made w q
+        IsSearchableWide said.now.described made) }
+    ensures named { (w : WideDescription) → IsWideDescriptionOf said.now w →
+        IfOk result (λ made. (q : QueryAsked) × StandsForWide said.now.described made w q
         × IsWideUnclaimed w
-        (map plain_query described.now.queries) (plain_text label.entry) q) }
-    ensures refused { (w : WideDescription) → IsWideDescriptionOf described.now w → IfErr result
-        (IsWideFault w (map plain_query described.now.queries) (plain_text label.entry)) }
+        (map plain_query said.now.described.queries) (plain_text label.entry) q) }
+    ensures refused { (w : WideDescription) → IsWideDescriptionOf said.now w → IfErr result
+        (IsWideFault w (map plain_query said.now.described.queries) (plain_text label.entry)) }
 {
-    let laws = wide_laws_of(alloc, described, terms)?;
-    let query = query_asked(alloc, described, label, terms)?;
-    match claim_named(described.queries.items(), label) {
+    let laws = wide_laws_of(alloc, said, terms)?;
+    let query = query_asked(alloc, &said.described, label, terms)?;
+    match claim_named(said.described.queries.items(), label) {
         Some(refusal) => Err(Fault::Refused(refusal)),
         None => Ok(PreparedWide { laws, query }),
     }

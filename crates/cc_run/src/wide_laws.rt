@@ -10,7 +10,7 @@ ghost use Rattle.cc_wide_ground.specs.WideGrounding.{wide_laws_refusal};
 
 use cc_arena::Terms;
 use cc_defs::Fault;
-use cc_describe::Described;
+use cc_describe::DescribedWide;
 use cc_ground::laws::declared_have_own_values;
 use cc_wide::WideGround;
 use cc_wide_ground::ground_wide;
@@ -21,25 +21,25 @@ use std::alloc::Global;
 /// parts of all laws, and then by their heads.
 pub(crate) fn wide_laws_of<'a>(
     alloc: Global,
-    described: &Described,
+    said: &DescribedWide,
     terms: &Terms<'a>,
 ) -> Result<WideGround<'a>, Fault>
-    requires signature { IsSignatureFor described.now.table described.now.sig }
-    requires forms { HasWideForms described.now }
-    ensures fit { IfOk result (λ laws. AreWideLawsFor described.now.sig laws) }
-    ensures of { (w : WideDescription) → IsWideDescriptionOf described.now w →
-        IfOk result (λ laws. AreWideLawsOf described.now.sig laws w) }
-    ensures unrefused { (w : WideDescription) → IsWideDescriptionOf described.now w →
+    requires signature { IsSignatureFor said.now.described.table said.now.described.sig }
+    requires forms { HasWideForms said.now }
+    ensures fit { IfOk result (λ laws. AreWideLawsFor said.now.described.sig laws) }
+    ensures of { (w : WideDescription) → IsWideDescriptionOf said.now w →
+        IfOk result (λ laws. AreWideLawsOf said.now.described.sig laws w) }
+    ensures unrefused { (w : WideDescription) → IsWideDescriptionOf said.now w →
         OnOk result (wide_laws_refusal w.universe w.laws ≡ None) }
-    ensures refused { (w : WideDescription) → IsWideDescriptionOf described.now w →
+    ensures refused { (w : WideDescription) → IsWideDescriptionOf said.now w →
         IfErr result (IsRefusedBy (wide_laws_refusal w.universe w.laws)) }
 {
     declared_have_own_values();
     ground_wide(
         alloc,
-        &described.table,
-        &described.sig,
-        &described.wide,
+        &said.described.table,
+        &said.described.sig,
+        &said.wide,
         terms,
     )
 }

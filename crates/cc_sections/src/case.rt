@@ -17,7 +17,7 @@ use bumpalo::Bump;
 use cc_arena::{GroundQuery, Laws, Terms};
 use cc_books::{bytes_named, files, head, parts};
 use cc_defs::{Nums, OutOfMemory, Query, Sig};
-use cc_describe::{DescribeStop, Described, Heads, describe};
+use cc_describe::{DescribeStop, Described, describe};
 use cc_form::Form;
 use cc_laws::query_steps;
 use cc_list::{laws_of, query_of};
@@ -162,7 +162,7 @@ fn show_description(
 ) -> Result<(), Halt> {
     let fails = Nums::of(Vec::new(alloc));
     let mut desk = MemoryDesk::new(alloc, files, fails, MOST, [0, 0, 0])?;
-    let answer = describe(alloc, &mut desk, name, Heads::Definite);
+    let answer = describe(alloc, &mut desk, name);
     drop(desk);
     match answer {
         Ok(described) => {

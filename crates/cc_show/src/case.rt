@@ -10,7 +10,7 @@ use crate::tables::{show_constants, show_files, show_sorts, show_symbols, show_v
 use crate::trees::show_trees;
 use cc_books::{files, head, parts};
 use cc_defs::{Nums, OutOfMemory};
-use cc_describe::{DescribeStop, Described, Heads, describe};
+use cc_describe::{DescribeStop, Described, describe};
 use cc_ports::{Files, MemoryDesk};
 use std::alloc::Global;
 
@@ -41,7 +41,7 @@ fn show_description(
 ) -> Result<(), OutOfMemory> {
     let fails = Nums::of(Vec::new(alloc));
     let mut desk = MemoryDesk::new(alloc, files, fails, MOST, [0, 0, 0])?;
-    let answer = describe(alloc, &mut desk, name, Heads::Definite);
+    let answer = describe(alloc, &mut desk, name);
     drop(desk);
     match answer {
         Ok(described) => {

@@ -9,7 +9,7 @@ use cc_defs::{
     BaseLaw, Bytes, Fault, Formula, Head, Law, LawKind, LimitAt, List, Name, Nums, OutOfMemory,
     Term,
 };
-use cc_describe::{DescribeStop, Described, Heads, describe};
+use cc_describe::{DescribeStop, Described, describe};
 use cc_ground::ground;
 use cc_laws::{classify, definite};
 use cc_list::run_list;
@@ -284,7 +284,7 @@ fn gives(
 {
     let fails = Nums::of(Vec::from_slice(alloc, fails)?);
     let mut desk = MemoryDesk::new(alloc, files, fails, most, [0, 0, 0])?;
-    let answer = describe(alloc, &mut desk, "m.cc", Heads::Definite);
+    let answer = describe(alloc, &mut desk, "m.cc");
     drop(desk);
     match answer {
         Ok(described) => {
@@ -363,7 +363,7 @@ fn described_text(alloc: Global, text: &str) -> Result<Described, DescribeStop>
     let Ok(mut desk) = MemoryDesk::new(alloc, files, fails, 4096, [0, 0, 0]) else {
         return Err(DescribeStop::OutOfMemory);
     };
-    let answer = describe(alloc, &mut desk, "f.cc", Heads::Definite);
+    let answer = describe(alloc, &mut desk, "f.cc");
     drop(desk);
     answer
 }

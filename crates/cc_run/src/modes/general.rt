@@ -3,7 +3,7 @@ ghost use Rattle.std.specs.Prelude.{◌≡◌, ◌<◌, ◌≤◌, [], IfOk, IfS
 ghost use Rattle.cc_list.specs.Descriptions.{IsWideDescriptionOf};
 ghost use Rattle.cc_defs.specs.Resolved.{Query};
 ghost use Rattle.cc_describe.specs.declared.heads.Heads.TheVariants as heads;
-ghost use Rattle.cc_describe.specs.Describing.{AsksFormulas, Describes, HasWideForms, SaysAll};
+ghost use Rattle.cc_describe.specs.Describing.{AsksFormulas, DescribesWide, HasWideForms, SaysAllWide};
 ghost use Rattle.cc_general.specs.GeneralRuns.{GeneralRun};
 ghost use Rattle.cc_general.specs.Generals.{HasMore, IsGeneralOf, IsSame, Stands, left_of};
 ghost use Rattle.cc_run.specs.Generals.{IsGeneralOfSome, IsWritableGeneral, TellsGeneralEvent, TellsGenerally, generally_given};
@@ -21,7 +21,7 @@ use crate::wide::{PreparedWide, prepare_wide};
 use bumpalo::Bump;
 use cc_arena::Terms;
 use cc_defs::Fault;
-use cc_describe::Described;
+use cc_describe::DescribedWide;
 use cc_general::General;
 use cc_general::laws::general_logs_are_accepted;
 use cc_ports::{Desk, To};
@@ -34,15 +34,15 @@ use std::alloc::Global;
 fn tell_next<D: Desk>(
     alloc: Global,
     desk: &mut D,
-    described: &Described,
+    said: &DescribedWide,
     general: &mut General<'_>,
 ) -> Result<Option<Status>, Stop>
-    requires signature { IsSignatureFor described.now.table described.now.sig }
-    requires same { described.now.sig ≡ general.old.signature }
+    requires signature { IsSignatureFor said.now.described.table said.now.described.sig }
+    requires same { said.now.described.sig ≡ general.old.signature }
     requires more { HasMore general.old }
-    requires of { IsGeneralOfSome described.now general.old }
+    requires of { IsGeneralOfSome said.now general.old }
     ensures tells { (w : WideDescription) (q : Query) (run : GeneralRun) →
-        IsWideDescriptionOf described.now w → IsGeneralOf general.old w q →
+        IsWideDescriptionOf said.now w → IsGeneralOf general.old w q →
         Stands w q general.old run → TellsGeneralEvent w q general.old.count general.old.budget run
         general.new (D.seen desk.old) (D.seen desk.new) result }
     ensures next { IfOk result (λ status. IsNone status →
@@ -51,7 +51,13 @@ fn tell_next<D: Desk>(
 {
     match general.next() {
         Ok(event) => {
-            let told = tell_general(alloc, desk, &described.table, &described.sig, &event);
+            let told = tell_general(
+                alloc,
+                desk,
+                &said.described.table,
+                &said.described.sig,
+                &event,
+            );
             drop(event);
             told
         }
@@ -64,21 +70,21 @@ fn tell_next<D: Desk>(
 fn tell_all<D: Desk>(
     alloc: Global,
     desk: &mut D,
-    described: &Described,
+    said: &DescribedWide,
     mut general: General<'_>,
 ) -> Result<Status, Stop>
-    requires signature { IsSignatureFor described.now.table described.now.sig }
-    requires same { described.now.sig ≡ general.signature }
+    requires signature { IsSignatureFor said.now.described.table said.now.described.sig }
+    requires same { said.now.described.sig ≡ general.signature }
     requires more { HasMore general }
-    requires of { IsGeneralOfSome described.now general }
+    requires of { IsGeneralOfSome said.now general }
     ensures { (w : WideDescription) (q : Query) (run : GeneralRun) →
-        IsWideDescriptionOf described.now w → IsGeneralOf general.entry w q →
+        IsWideDescriptionOf said.now w → IsGeneralOf general.entry w q →
         Stands w q general.entry run → IsWritableGeneral w q run →
         TellsGenerally w q general.entry.count general.entry.budget (generally_given w q run)
         (D.seen desk.old) (D.seen desk.new) result }
 {
     loop {
-        match tell_next(alloc, desk, described, &mut general) {
+        match tell_next(alloc, desk, said, &mut general) {
             Ok(Some(status)) => {
                 drop(general);
                 return Ok(status);
@@ -96,31 +102,31 @@ fn tell_all<D: Desk>(
 fn tell_run<D: Desk>(
     alloc: Global,
     desk: &mut D,
-    described: &Described,
+    said: &DescribedWide,
     prepared: &PreparedWide<'_>,
     count: Option<u32>,
     budget: u32,
 ) -> Result<Status, Stop>
-    requires signature { IsSignatureFor described.now.table described.now.sig }
-    requires searchable { IsSearchableWide described.now prepared.now }
+    requires signature { IsSignatureFor said.now.described.table said.now.described.sig }
+    requires searchable { IsSearchableWide said.now.described prepared.now }
     requires count { IfSome count (λ most. 1 ≤ most) }
     requires budget { budget ≤ 2000000 }
-    requires of { (w : WideDescription) × (q : Query) × IsWideDescriptionOf described.now w
-        × StandsForWide described.now prepared.now w q }
-    ensures { (w : WideDescription) (q : Query) → IsWideDescriptionOf described.now w →
-        StandsForWide described.now prepared.now w q →
+    requires of { (w : WideDescription) × (q : Query) × IsWideDescriptionOf said.now w
+        × StandsForWide said.now.described prepared.now w q }
+    ensures { (w : WideDescription) (q : Query) → IsWideDescriptionOf said.now w →
+        StandsForWide said.now.described prepared.now w q →
         TellsGenerally w q count budget nothing (D.seen desk.old) (D.seen desk.new) result }
 {
     let general = General::new(
         alloc,
-        &described.sig,
+        &said.described.sig,
         &prepared.laws,
         &prepared.query,
         count,
         budget,
     );
     match give(desk, To::Log, b"ccalc general 1\n") {
-        Ok(()) => tell_all(alloc, desk, described, general),
+        Ok(()) => tell_all(alloc, desk, said, general),
         Err(stop) => {
             drop(general);
             Err(stop)
@@ -132,55 +138,55 @@ fn tell_run<D: Desk>(
 fn list_generally<D: Desk>(
     alloc: Global,
     desk: &mut D,
-    described: &Described,
+    said: &DescribedWide,
     asked: &GeneralAsked<'_>,
     prepared: &PreparedWide<'_>,
 ) -> Result<Status, Stop>
-    requires signature { IsSignatureFor described.now.table described.now.sig }
-    requires searchable { IsSearchableWide described.now prepared.now }
+    requires signature { IsSignatureFor said.now.described.table said.now.described.sig }
+    requires searchable { IsSearchableWide said.now.described prepared.now }
     requires count { IfSome asked.now.count (λ count. 1 ≤ count) }
     requires budget { asked.now.budget ≤ 2000000 }
-    requires of { (w : WideDescription) × (q : Query) × IsWideDescriptionOf described.now w
-        × StandsForWide described.now prepared.now w q }
+    requires of { (w : WideDescription) × (q : Query) × IsWideDescriptionOf said.now w
+        × StandsForWide said.now.described prepared.now w q }
     ensures { (generally : Generally) (w : WideDescription) (q : Query) →
         plain_request (requests.General asked.now) ≡ ToListGenerally generally →
-        IsWideDescriptionOf described.now w → StandsForWide described.now prepared.now w q →
+        IsWideDescriptionOf said.now w → StandsForWide said.now.described prepared.now w q →
         IfSome (D.seen desk.old).told (λ before. NamesWide before.files (named_generally generally)
         w q) → Prints (general_promise generally) (is_some generally.log) [] (D.seen desk.old) (D.seen desk.new) result }
 {
     general_logs_are_accepted();
     begin_log(desk, asked.log)?;
-    tell_run(alloc, desk, described, prepared, asked.count, asked.budget)
+    tell_run(alloc, desk, said, prepared, asked.count, asked.budget)
 }
 
 /// Lists the first histories of a query by the definition of a model itself.
 pub(crate) fn general<D: Desk>(
     alloc: Global,
     desk: &mut D,
-    described: &Described,
+    said: &DescribedWide,
     asked: &GeneralAsked<'_>,
 ) -> Result<Status, Stop>
     requires count { IfSome asked.now.count (λ count. 1 ≤ count) }
     requires budget { asked.now.budget ≤ 2000000 }
-    requires says { SaysAll heads.Any described.now }
-    requires forms { HasWideForms described.now }
-    requires formulas { AsksFormulas described.now }
+    requires says { SaysAllWide heads.Any said.now }
+    requires forms { HasWideForms said.now }
+    requires formulas { AsksFormulas said.now.described }
     ensures { (generally : Generally) →
         plain_request (requests.General asked.now) ≡ ToListGenerally generally →
-        IfSome (D.seen desk.old).told (λ before. Describes heads.Any before.files generally.file
-        described.now) → Prints (general_promise generally) (is_some generally.log) [] (D.seen desk.old) (D.seen desk.new)
+        IfSome (D.seen desk.old).told (λ before. DescribesWide heads.Any before.files generally.file
+        said.now) → Prints (general_promise generally) (is_some generally.log) [] (D.seen desk.old) (D.seen desk.new)
         result }
 {
     let arena = Bump::new(alloc);
     let terms = Terms::new(&arena);
-    match prepare_wide(alloc, described, asked.query, &terms) {
+    match prepare_wide(alloc, said, asked.query, &terms) {
         Ok(prepared) => {
-            let told = list_generally(alloc, desk, described, asked, &prepared);
+            let told = list_generally(alloc, desk, said, asked, &prepared);
             drop(prepared);
             told
         }
         Err(Fault::Refused(refusal)) => {
-            let file = file_named(described.files.items(), &refusal);
+            let file = file_named(said.described.files.items(), &refusal);
             refuse(alloc, desk, &refusal, file)
         }
         Err(Fault::OutOfMemory) => Err(Stop::OutOfMemory),

@@ -4,7 +4,7 @@ ghost use Rattle.cc_defs.specs.Limits.{limit_number};
 ghost use Rattle.cc_defs.specs.declared.refusal.LimitAt.TheVariants as limits;
 ghost use Rattle.cc_defs.specs.Resolved.{Query};
 ghost use Rattle.cc_describe.specs.declared.heads.Heads.TheVariants as heads;
-ghost use Rattle.cc_describe.specs.Describing.{AsksFormulas, Describes, HasWideForms, SaysAll};
+ghost use Rattle.cc_describe.specs.Describing.{AsksFormulas, DescribesWide, HasWideForms, SaysAllWide};
 ghost use Rattle.cc_run.specs.Modes.CheckingGeneral.{general_checking_promise, NamesGeneralLog, named_for_general};
 ghost use Rattle.cc_run.specs.Modes.Generally.{NamesWide};
 ghost use Rattle.cc_run.specs.Generals.{IsSearchableWide, StandsForWide};
@@ -18,7 +18,7 @@ use crate::wide::{PreparedWide, prepare_wide};
 use bumpalo::Bump;
 use cc_arena::Terms;
 use cc_defs::{Fault, LimitAt, Refusal};
-use cc_describe::Described;
+use cc_describe::DescribedWide;
 use cc_general::check_general;
 use cc_ports::{Desk, ReadStop, read_all};
 use cc_tell::{Status, Stop, file_named, refuse};
@@ -30,20 +30,20 @@ use std::alloc::Global;
 fn check_log<D: Desk>(
     alloc: Global,
     desk: &mut D,
-    described: &Described,
+    said: &DescribedWide,
     prepared: &PreparedWide<'_>,
     bytes: &[u8],
 ) -> Result<Status, Stop>
-    requires searchable { IsSearchableWide described.now prepared.now }
+    requires searchable { IsSearchableWide said.now.described prepared.now }
     requires few { length bytes.now ≤ limit_number limits.LogBytes }
     ensures { (checking : GeneralChecking) (w : WideDescription) (q : Query) →
-        StandsForWide described.now prepared.now w q →
+        StandsForWide said.now.described prepared.now w q →
         IfSome (D.seen desk.old).told (λ before. NamesGeneralLog before.files checking w q
         bytes.now) → Prints (general_checking_promise checking) false [] (D.seen desk.old) (D.seen desk.new) result }
 {
     match check_general(
         alloc,
-        &described.sig,
+        &said.described.sig,
         &prepared.laws,
         &prepared.query,
         bytes,
@@ -58,19 +58,19 @@ fn check_log<D: Desk>(
 fn check_over<D: Desk>(
     alloc: Global,
     desk: &mut D,
-    described: &Described,
+    said: &DescribedWide,
     prepared: &PreparedWide<'_>,
     log: &str,
 ) -> Result<Status, Stop>
-    requires searchable { IsSearchableWide described.now prepared.now }
+    requires searchable { IsSearchableWide said.now.described prepared.now }
     ensures { (checking : GeneralChecking) (w : WideDescription) (q : Query) →
         log.now ≡ checking.log →
-        StandsForWide described.now prepared.now w q →
+        StandsForWide said.now.described prepared.now w q →
         IfSome (D.seen desk.old).told (λ before. NamesWide before.files (named_for_general checking)
         w q) → Prints (general_checking_promise checking) false (log.now ∷ []) (D.seen desk.old) (D.seen desk.new) result }
 {
     match read_all(alloc, desk, log, LimitAt::LogBytes.number() as usize) {
-        Ok(bytes) => check_log(alloc, desk, described, prepared, bytes.items()),
+        Ok(bytes) => check_log(alloc, desk, said, prepared, bytes.items()),
         Err(ReadStop::Limit) => refuse(alloc, desk, &Refusal::past(LimitAt::LogBytes), ""),
         Err(ReadStop::Failed) => Err(Stop::ReadFault),
         Err(ReadStop::OutOfMemory) => Err(Stop::OutOfMemory),
@@ -81,24 +81,24 @@ fn check_over<D: Desk>(
 pub(crate) fn check<D: Desk>(
     alloc: Global,
     desk: &mut D,
-    described: &Described,
+    said: &DescribedWide,
     asked: &CheckGeneralAsked<'_>,
 ) -> Result<Status, Stop>
-    requires says { SaysAll heads.Any described.now }
-    requires forms { HasWideForms described.now }
-    requires formulas { AsksFormulas described.now }
+    requires says { SaysAllWide heads.Any said.now }
+    requires forms { HasWideForms said.now }
+    requires formulas { AsksFormulas said.now.described }
     ensures { (checking : GeneralChecking) →
         plain_request (requests.CheckGeneral asked.now) ≡ ToCheckGeneral checking →
-        IfSome (D.seen desk.old).told (λ before. Describes heads.Any before.files checking.file
-        described.now) → Prints (general_checking_promise checking) false (asked.now.log.now ∷ []) (D.seen desk.old)
+        IfSome (D.seen desk.old).told (λ before. DescribesWide heads.Any before.files checking.file
+        said.now) → Prints (general_checking_promise checking) false (asked.now.log.now ∷ []) (D.seen desk.old)
         (D.seen desk.new) result }
 {
     let arena = Bump::new(alloc);
     let terms = Terms::new(&arena);
-    match prepare_wide(alloc, described, asked.query, &terms) {
-        Ok(prepared) => check_over(alloc, desk, described, &prepared, asked.log),
+    match prepare_wide(alloc, said, asked.query, &terms) {
+        Ok(prepared) => check_over(alloc, desk, said, &prepared, asked.log),
         Err(Fault::Refused(refusal)) => {
-            let file = file_named(described.files.items(), &refusal);
+            let file = file_named(said.described.files.items(), &refusal);
             refuse(alloc, desk, &refusal, file)
         }
         Err(Fault::OutOfMemory) => Err(Stop::OutOfMemory),

@@ -18,11 +18,13 @@ returns-in-Ok-clause-described c = λ which places is.
     let of = c.in-Ok.ensures.made (declared_in places) is.table in (
       of.0,
       record {
-        table = rw c.said_by.ensures is.table;
-        signature = rw c.said_by.ensures of;
-        laws = ap (λ d. map plain_base_law d.laws) c.said_by.ensures ∙ is.laws;
+        described = record {
+          table = rw c.said_by.ensures is.table;
+          signature = rw c.said_by.ensures of;
+          laws = ap (λ d. map plain_base_law d.described.laws) c.said_by.ensures ∙ is.laws;
+          queries = ap (λ d. map plain_query d.described.queries) c.said_by.ensures ∙ is.queries;
+          names = ap (λ d. d.described.files) c.said_by.ensures ∙ is.names;
+        };
         wide = ap (λ d. map plain_wide_base d.wide) c.said_by.ensures ∙ is.wide;
-        queries = ap (λ d. map plain_query d.queries) c.said_by.ensures ∙ is.queries;
-        names = ap (λ d. d.files) c.said_by.ensures ∙ is.names;
       },
     )

@@ -1,6 +1,6 @@
 use Rattle.std.proofs.Common.{Some, ◌∙◌, Err, ap, refl, subst}
 use Rattle.cc_describe.specs.declared.description.DescribeStop.TheVariants as stops
-use Rattle.cc_describe.specs.Describing.{Describes, HasStopped}
+use Rattle.cc_describe.specs.Describing.{DescribesWide, HasStopped}
 use Rattle.cc_run.proofs.Promised.{may_be_refused}
 use Rattle.cc_run.specs.Promised.{promise_of}
 use Rattle.cc_run.specs.Requested.{AsksDescription, heads_of, named_of, opens_behind, source_of}
@@ -13,8 +13,8 @@ use Rattle.cc_run.proofs.top.answer_described.Goals as goal
 pub returns-in-Ok : goal.returns-in-Ok
 returns-in-Ok g c = λ request earlier same reads.
     let read = reads_as request _ _ _ _ c.in-Ok.is reads in
-    let there = files_stay read.rest (λ files. Describes (heads_of request) (source_of request files) (named_of request).file c.in-Ok.described) _ _ read.told read.describes in
-    prints_opened (promise_of request) _ _ _ _ c.answer_read-answer.result (opened_all _ request c.in-Ok.described read.opened (subst AsksDescription same c.requires.description) read.opens)
+    let there = files_stay read.rest (λ files. DescribesWide (heads_of request) (source_of request files) (named_of request).file c.in-Ok.said) _ _ read.told read.describes in
+    prints_opened (promise_of request) _ _ _ _ c.answer_read-answer.result (opened_all _ request c.in-Ok.said read.opened (subst AsksDescription same c.requires.description) read.opens)
     (prints_after_read (promise_of request) _ read.opened (opens_behind request) read.rest _ _ _ c.answer_read-answer.result read.told read.begun read.reads read.writes
     read.called (read.calm (ok_no_err _ _)) (c.answer_read-answer.ensures request same there))
 

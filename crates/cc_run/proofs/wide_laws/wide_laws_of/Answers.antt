@@ -9,13 +9,13 @@ pub returns-clause-fit : goal.returns-clause-fit
 returns-clause-fit c =
     let declarations = c.requires.signature.0 in
     IfOk-weaker c.ground_wide.result _ _
-    (λ laws fit. wide_laws_fit c.args.described.now.sig declarations laws c.requires.signature.2 (c.declared_have_own_values.ensures declarations c.requires.signature.2.2) fit)
+    (λ laws fit. wide_laws_fit c.args.said.now.described.sig declarations laws c.requires.signature.2 (c.declared_have_own_values.ensures declarations c.requires.signature.2.2) fit)
     (c.ground_wide.ensures.fits declarations c.requires.signature.1 c.requires.signature.2 (c.requires.forms declarations c.requires.signature.1))
 
 pub returns-clause-of : goal.returns-clause-of
 returns-clause-of c = λ w is.
     IfOk-weaker c.ground_wide.result _ _
-    (λ laws made. wide_laws_are c.args.described.now.sig is.declarations _ laws w is.is is.signature made)
+    (λ laws made. wide_laws_are c.args.said.now.described.sig is.declarations _ laws w is.is is.signature made)
     (c.ground_wide.ensures.made is.declarations is.table is.signature)
 
 pub returns-clause-unrefused : goal.returns-clause-unrefused

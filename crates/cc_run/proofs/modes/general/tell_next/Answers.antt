@@ -12,7 +12,7 @@ pub returns-in-Ok-clause-tells : goal.returns-in-Ok-clause-tells
 returns-in-Ok-clause-tells g c = λ w q run is general stands.
     event_told w q run c.args.general.now c.next.new.self stands c.in-Ok.event _ _ c.tell_general-told.result (c.in-Ok.ensures.tells w q run general stands) c.next.ensures.same
     c.in-Ok.ensures.writable (c.in-Ok.ensures.good w q general)
-    (c.tell_general-told.ensures.told (frame w) (framed_names c.args.described.now w is)) c.tell_general-told.ensures.status
+    (c.tell_general-told.ensures.told (frame w) (framed_names c.args.said.now w is)) c.tell_general-told.ensures.status
 
 pub returns-in-Ok-clause-next : goal.returns-in-Ok-clause-next
 returns-in-Ok-clause-next g c =
