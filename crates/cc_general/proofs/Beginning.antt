@@ -1,5 +1,5 @@
 -- A run that has told nothing.
-use Rattle.std.proofs.Common.{◌≡◌, ℕ, ◌+◌, ◌≤◌, Option, Some, None, refl, sym, subst, ap, arith}
+use Rattle.std.proofs.Common.{◌≡◌, ℕ, ◌+◌, ◌≤◌, [], Option, Some, None, refl, sym, subst, ap, arith}
 use Rattle.std.specs.Prelude.{IfSome, IsNone}
 use Rattle.std.specs.Option.{option_map}
 use Rattle.cc_defs.specs.GroundLaws.{PlainGroundQuery}
@@ -7,6 +7,7 @@ use Rattle.cc_defs.specs.Resolved.{Query}
 use Rattle.cc_defs.specs.Runs.{range_of}
 use Rattle.cc_general.specs.declared.phase.Phase.TheVariants as phases
 use Rattle.cc_general.specs.Generals.{Awaits, GeneralView, IsGeneralOf, Stands, nothing_told}
+use Rattle.cc_general.proofs.Candidates.{gone_none}
 use Rattle.cc_general.proofs.Fairness.{range_is}
 use Rattle.cc_query.proofs.Rows.{first_none}
 use Rattle.cc_wide.specs.WideLaws.{WideDescription}
@@ -35,6 +36,7 @@ new_stands now horizon ordered claim count listed phase w q of =
         within = omega arith;
         opened = λ some. absurd (some refl);
         first = first_none (IsGeneral w q ((range_of q).0 + 0));
+        gone = ([], gone_none w q ((range_of q).0 + 0));
         each = tt;
         asked = none_asked now.count count;
         ending = tt;

@@ -1,16 +1,18 @@
 -- Of the first candidates the histories were told: what follows for the histories.
-use Rattle.std.proofs.Common.{◌≡◌, ℕ, ◌⊎◌, inl, inr, List, [], ◌∷◌, ◌++◌, sym, subst}
+use Rattle.std.proofs.Common.{◌≡◌, ℕ, ◌≤◌, ◌⊎◌, inl, inr, List, [], ◌∷◌, ◌++◌, length, None, sym, subst, arith}
 use Rattle.std.specs.Prelude.{Contains}
 use Rattle.std.specs.List.{AllByRecursion}
 use Rattle.std.specs.List.Sorted.{IsStrictlySortedBy}
 use Rattle.std.proofs.lemmas.List.Elements.{Contains-append_left, Contains-append_right, Contains-append_cases}
 use Rattle.cc_defs.specs.Histories.{AreAllOf, AreFirstOf}
+use Rattle.cc_defs.specs.Limits.{most_histories}
 use Rattle.cc_defs.specs.Resolved.{Query}
 use Rattle.cc_defs.specs.Rows.{IsBelow, row_cmp}
-use Rattle.cc_general.specs.GeneralRuns.{AreJudged, AreToldBelow, HasNoGeneral}
-use Rattle.cc_query.proofs.Rows.{below_trans, first_more, not_below_itself}
+use Rattle.cc_general.specs.GeneralRuns.{AreJudged, HasNoGeneral, WentThrough}
+use Rattle.cc_query.proofs.AcceptedLines.{all_append}
+use Rattle.cc_query.proofs.Rows.{first_more, first_none, not_below_itself}
 use Rattle.cc_query.proofs.Steps.{in_cases, in_first, in_none}
-use Rattle.cc_rivals.specs.Wides.{HistoriesHaveNoRivals}
+use Rattle.cc_rivals.specs.Wides.{HistoriesHaveNoRivals, rivals_refusal}
 use Rattle.cc_wide.specs.WideLaws.{WideDescription}
 use Rattle.cc_wide.specs.WideRules.{IsCandidate, IsGeneral, IsRival}
 
@@ -39,6 +41,15 @@ one_more rows last row there = elim (Contains-append_cases rows (last ∷ []) ro
     | inr none ↦ absurd (in_none row none)
   ]
 ]
+
+-- none was gone through yet
+pub gone_none : (w : WideDescription) (q : Query) (horizon : ℕ) → WentThrough w q horizon [] []
+gone_none w q horizon = record {
+  first = first_none (IsCandidate w q horizon);
+  few = omega arith;
+  within = tt;
+  judged = λ row. ((λ there. absurd (in_none row there)), (λ both. absurd (in_none row both.0)));
+}
 
 module _ (law : HistoriesHaveNoRivals) (w : WideDescription) (q : Query) (horizon : ℕ) where
   abbrev Is : List ℕ → Type 0
@@ -71,16 +82,7 @@ module _ (law : HistoriesHaveNoRivals) (w : WideDescription) (q : Query) (horizo
     pub untold : Contains told row → ⊥
     untold there = not_below_itself row (last_above rows row first.ascending row ((judged row).0 there).0)
 
-    pub told_below : AreToldBelow w q horizon row told
-    told_below other is below = elim (first.others other (is_candidate other is)) [
-      | inl there ↦ elim (one_more rows row other there) [
-        | inl early ↦ (judged other).1 (early, is)
-        | inr same ↦ absurd (not_below_itself row (subst (λ (r : List ℕ). IsBelow r row) (sym same) below))
-      ]
-      | inr after ↦ absurd (not_below_itself other (below_trans other row other below (after row here)))
-    ]
-
-    pub judged_pass : (Is row → ⊥) → AreJudged w q horizon (rows ++ row ∷ []) told
+    judged_pass : (Is row → ⊥) → AreJudged w q horizon (rows ++ row ∷ []) told
     judged_pass none other = (
       (λ there. let both = (judged other).0 there in (Contains-append_left rows (row ∷ []) other both.0, both.1)),
       (λ both. elim (one_more rows row other both.0) [
@@ -90,7 +92,7 @@ module _ (law : HistoriesHaveNoRivals) (w : WideDescription) (q : Query) (horizo
     )
 
     module _ (is : Is row) where
-      pub judged_more : AreJudged w q horizon (rows ++ row ∷ []) (told ++ row ∷ [])
+      judged_more : AreJudged w q horizon (rows ++ row ∷ []) (told ++ row ∷ [])
       judged_more other = (
         (λ there. elim (one_more told row other there) [
           | inl early ↦ (Contains-append_left rows (row ∷ []) other ((judged other).0 early).0, ((judged other).0 early).1)
@@ -111,3 +113,20 @@ module _ (law : HistoriesHaveNoRivals) (w : WideDescription) (q : Query) (horizo
             ]
             | inr after ↦ inr (after row here)
           ])
+
+  -- it was gone through, too
+  module _ (rows told : List (List ℕ)) (row : List ℕ) (first : AreFirstOf (IsCandidate w q horizon) (rows ++ row ∷ [])) (few : length (rows ++ row ∷ []) ≤ most_histories)
+      (gone : WentThrough w q horizon rows told) (within : rivals_refusal w horizon row ≡ None) where
+    gone_on : (then : List (List ℕ)) → AreJudged w q horizon (rows ++ row ∷ []) then → WentThrough w q horizon (rows ++ row ∷ []) then
+    gone_on then judged = record {
+      first = first;
+      few = few;
+      within = all_append (λ (r : List ℕ). rivals_refusal w horizon r ≡ None) rows (row ∷ []) gone.within (within, tt);
+      judged = judged;
+    }
+
+    pub gone_pass : (Is row → ⊥) → WentThrough w q horizon (rows ++ row ∷ []) told
+    gone_pass none = gone_on told (judged_pass rows told row first gone.judged none)
+
+    pub gone_more : Is row → WentThrough w q horizon (rows ++ row ∷ []) (told ++ row ∷ [])
+    gone_more is = gone_on (told ++ row ∷ []) (judged_more rows told row first gone.judged is)

@@ -7,7 +7,8 @@ use Rattle.cc_defs.specs.GroundLaws.{PlainGroundQuery, StandsForQuery}
 use Rattle.cc_defs.specs.Histories.{AreFirstOf}
 use Rattle.cc_defs.specs.Resolved.{Query}
 use Rattle.cc_defs.specs.Runs.{Section, range_of}
-use Rattle.cc_general.specs.GeneralRuns.{GeneralEnding, Complete, Asked, NoneAtAll, SpentAmong, SpentOver, GeneralRun, HasNoGeneral, IsFairGeneral, IsShownRightly, IsWanting, MayEndGeneral, Shown, general_horizon, rows_shown}
+use Rattle.cc_general.specs.GeneralRuns.{GeneralEnding, Complete, Asked, NoneAtAll, SpentAmong, SpentOver, GeneralRun, HasNoGeneral, IsFairGeneral, IsShownRightly, IsWanting, MayEndGeneral, Shown, WentThrough, WentThroughAll, general_horizon, rows_shown}
+use Rattle.cc_general.proofs.Candidates.{gone_none}
 use Rattle.cc_general.proofs.Walking.{all_append}
 use Rattle.cc_query.proofs.Rows.{first_none}
 use Rattle.cc_rivals.specs.Wides.{candidates_refusal}
@@ -46,9 +47,10 @@ module _ (w : WideDescription) (q : Query) (count : Option ℕ) (budget : ℕ) (
   at = general_horizon q run
 
   pub shows_fair : (row : List ℕ) (section : Section) → IsNone run.ending → at ≤ (range_of q).1 → candidates_refusal w q at ≡ None → IsWanting count run →
-      AreFirstOf (IsGeneral w q at) (rows_shown run ++ row ∷ []) → IsShownRightly w budget at (record { row = row; section = section }) →
+      AreFirstOf (IsGeneral w q at) (rows_shown run ++ row ∷ []) →
+      (rows : List (List ℕ)) × WentThrough w q at rows (map (λ (shown : Shown). shown.row) (run.shown ++ record { row = row; section = section } ∷ [])) → IsShownRightly w budget at (record { row = row; section = section }) →
       IsFairGeneral w q count budget (record run { shown = run.shown ++ record { row = row; section = section } ∷ [] })
-  shows_fair row section open_yet low within wanting first shown =
+  shows_fair row section open_yet low within wanting first gone shown =
       let one : List Shown = record { row = row; section = section } ∷ [] in
       record {
         claim = fair.claim;
@@ -56,24 +58,30 @@ module _ (w : WideDescription) (q : Query) (count : Option ℕ) (budget : ℕ) (
         within = fair.within;
         opened = λ some. (low, within);
         first = subst (AreFirstOf (IsGeneral w q at)) (sym (shown_behind run row section)) first;
+        gone = gone;
         each = all_append (IsShownRightly w budget at) run.shown one fair.each (shown, tt);
         asked = weaker count (length run.shown) (length (run.shown ++ one)) (let long = length-append run.shown one in omega arith) wanting;
         ending = none_if _ run.ending open_yet;
       }
 
-  pub passes_fair : IsNone run.ending → run.shown ≡ [] → at ≤ (range_of q).1 → HasNoGeneral w q at → candidates_refusal w q at ≡ None →
+  pub passes_fair : IsNone run.ending → run.shown ≡ [] → at ≤ (range_of q).1 → HasNoGeneral w q at → candidates_refusal w q at ≡ None → WentThroughAll w q at [] →
       IsFairGeneral w q count budget (record run { empty = run.empty + 1 })
-  passes_fair open_yet none low empty within =
+  passes_fair open_yet none low empty within through =
       record {
         claim = fair.claim;
         none = λ horizon least less. elim (last_or_before (range_of q).0 run.empty horizon less) [
           | inl before ↦ fair.none horizon least before
-          | inr same ↦ subst (λ (h : ℕ). HasNoGeneral w q h × (candidates_refusal w q h ≡ None)) same (empty, within)
+          | inr same ↦ subst (λ (h : ℕ). HasNoGeneral w q h × (candidates_refusal w q h ≡ None) × WentThroughAll w q h []) same (empty, within, through)
         ];
         within = omega arith;
         opened = λ some. absurd (some none);
         first = subst (λ (shown : List Shown). AreFirstOf (IsGeneral w q ((range_of q).0 + (run.empty + 1))) (map (λ (s : Shown). s.row) shown)) (sym none)
             (first_none (IsGeneral w q ((range_of q).0 + (run.empty + 1))));
+        gone = (
+          [],
+          subst (λ (shown : List Shown). WentThrough w q ((range_of q).0 + (run.empty + 1)) [] (map (λ (s : Shown). s.row) shown)) (sym none)
+              (gone_none w q ((range_of q).0 + (run.empty + 1))),
+        );
         each = subst (AllByRecursion (IsShownRightly w budget ((range_of q).0 + (run.empty + 1)))) (sym none) tt;
         asked = fair.asked;
         ending = none_if _ run.ending open_yet;
@@ -93,6 +101,7 @@ module _ (w : WideDescription) (q : Query) (count : Option ℕ) (budget : ℕ) (
     within = fair.within;
     opened = fair.opened;
     first = fair.first;
+    gone = fair.gone;
     each = fair.each;
     asked = fair.asked;
     ending = may_end how may;

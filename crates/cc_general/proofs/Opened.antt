@@ -9,8 +9,8 @@ use Rattle.cc_defs.specs.Sections.{Axioms}
 use Rattle.cc_form.specs.Places.{position_sizes}
 use Rattle.cc_general.specs.Generals.{GeneralView, IsAmong, IsGeneralOf}
 use Rattle.cc_general.specs.Walks.{IsFormOf, IsListingAt}
+use Rattle.cc_general.proofs.Candidates.{gone_none}
 use Rattle.cc_query.specs.Parts.{open_section}
-use Rattle.cc_query.proofs.Steps.{in_none}
 use Rattle.cc_rivals.specs.Wides.{AreWideLawsOf, candidates_refusal}
 use Rattle.cc_search.specs.Searches.{HasMore, SearchView, Stands}
 use Rattle.cc_wide.specs.WideLaws.{WideDescription, frame}
@@ -54,7 +54,7 @@ module _ (general : GeneralView) (form : Axioms) (search : SearchView) (stands :
         section = open_section [];
         stands = subst (λ (x : Axioms). Stands x None general.budget search (open_section [])) is.axioms stands;
         lines_are = refl;
-        judged = λ row. ((λ there. absurd (in_none row there)), (λ both. absurd (in_none row both.0)));
+        gone = gone_none w q general.horizon;
       }
 
   pub listing_first : general.horizon ≤ general.query.hi → general.horizon ≤ 1000 → HasMore search → form.sizes ≡ position_sizes general.signature general.horizon →

@@ -11,7 +11,6 @@ use Rattle.cc_defs.specs.declared.log.LogLine.TheVariants as said
 use Rattle.cc_defs.specs.declared.refusal.Fault.{Fault}
 use Rattle.cc_defs.specs.declared.refusal.Fault.TheVariants as faults
 use Rattle.cc_defs.specs.GroundLaws.{StandsForQuery}
-use Rattle.cc_defs.specs.Histories.{AreFirstOf}
 use Rattle.cc_defs.specs.Limits.{most_histories}
 use Rattle.cc_defs.specs.LogTexts.{IsFormed}
 use Rattle.cc_defs.specs.Refusals.{IsRefusedBy}
@@ -23,19 +22,19 @@ use Rattle.cc_general.specs.declared.halt.Halt.{Halt}
 use Rattle.cc_general.specs.declared.halt.Halt.TheVariants as halts
 use Rattle.cc_general.specs.declared.phase.Phase.{Phase}
 use Rattle.cc_general.specs.declared.phase.Phase.TheVariants as phases
-use Rattle.cc_general.specs.GeneralRuns.{GeneralEnding, Complete, Asked, NoneAtAll, SpentAmong, SpentOver, GeneralRun, IsFairGeneral, IsGeneralLimit, IsWanting, MayEndGeneral, ReachesGeneralLimit, Shown, general_horizon, rows_shown}
+use Rattle.cc_general.specs.GeneralRuns.{GeneralEnding, Complete, Asked, NoneAtAll, SpentAmong, SpentOver, GeneralRun, IsFairGeneral, IsWanting, MayEndGeneral, Shown, WentThrough, general_horizon, rows_shown}
 use Rattle.cc_general.specs.Generals.{Awaits, GeneralView, IsAmong, IsGeneralOf, IsGoodEvent, IsOver, IsReady, IsRightFault, Stands, left_at, left_of}
 use Rattle.cc_general.specs.Walks.{Comes, Gives, HaltsAt, IsListingAt, IsToldOf, IsWalkFault, IsWalkLimit}
-use Rattle.cc_general.proofs.Candidates.{all_told, candidate, first_told, judged_more, none_told, told_below, untold}
+use Rattle.cc_general.proofs.Candidates.{all_told, candidate, first_told, gone_more, none_told}
 use Rattle.cc_general.proofs.Fairness.{ends_fair, passes_fair, range_is, shown_behind, shows_fair}
-use Rattle.cc_general.proofs.Walking.{all_append}
+use Rattle.cc_general.proofs.Walking.{all_append, next_found}
 use Rattle.cc_query.specs.Parts.{rows_in, section_of}
 use Rattle.cc_query.specs.Lefts as lefts
 use Rattle.cc_query.proofs.Steps.{in_none}
 use Rattle.cc_rivals.specs.Wides.{HistoriesHaveNoRivals, candidates_refusal}
 use Rattle.cc_search.specs.declared.stage.Stage.{Stage}
 use Rattle.cc_search.specs.declared.stage.Stage.TheVariants as stages
-use Rattle.cc_search.specs.Searches.{HasMore, SearchView, phase_of}
+use Rattle.cc_search.specs.Searches.{SearchView, phase_of}
 use Rattle.cc_search.specs.Searches as searches
 use Rattle.cc_wide.specs.WideLaws.{WideDescription, frame}
 use Rattle.cc_wide.specs.WideRules.{IsGeneral, IsRival}
@@ -217,9 +216,7 @@ module _ (now : GeneralView) where
                 ends_so w q run (SpentOver row shown.section) over stands.fair stands.horizon stands.listed (
                   low_of w q run of.query stands.horizon ready.low,
                   wanting_of run stands.listed wanting,
-                  candidate law w q (general_horizon q run) (rows_in found.steps) (rows_shown run) row found.first found.judged,
-                  untold law w q (general_horizon q run) (rows_in found.steps) (rows_shown run) row found.first found.judged,
-                  told_below law w q (general_horizon q run) (rows_in found.steps) (rows_shown run) row found.first found.judged,
+                  next_found w q now.budget (general_horizon q run) (rows_shown run) new after row found,
                   shown.looks,
                   shown.ends,
                 ),
@@ -242,7 +239,7 @@ module _ (now : GeneralView) where
                   low_of w q run of.query stands.horizon ready.low,
                   wanting_of run stands.listed wanting,
                   closed.tells,
-                  closed.judged,
+                  closed.gone,
                   closed.ends,
                 ),
               );
@@ -268,7 +265,8 @@ module _ (now : GeneralView) where
                 ends_so w q run Complete over stands.fair stands.horizon stands.listed (
                   (λ none. (let listed = stands.listed in let zero_long = ap length none in absurd (omega arith))),
                   wanting_of run stands.listed wanting,
-                  all_told law w q (general_horizon q run) (rows_of closed.section) (rows_shown run) (closed.tells.all_told closed.ends) closed.judged stands.fair.first,
+                  all_told law w q (general_horizon q run) (rows_of closed.section) (rows_shown run) (closed.tells.all_told closed.ends) closed.gone.judged stands.fair.first,
+                  (rows_of closed.section, closed.gone, closed.tells.all_told closed.ends),
                 ),
               );
           less = over_less over (searches.left_of search) (left_less comes);
@@ -282,15 +280,15 @@ module _ (now : GeneralView) where
         pass_gives none comes = record {
           tells = λ w q run of stands.
               let closed = halted halts.Exhausted comes w q run of stands in
-              let nothing = no_items run.shown (sym stands.listed ∙ none) in (
+              let nothing = no_items run.shown (sym stands.listed ∙ none) in
+              let gone = subst (λ (shown : List Shown). WentThrough w q (general_horizon q run) (rows_of closed.section) (map (λ (s : Shown). s.row) shown)) nothing closed.gone in (
                 record run { empty = run.empty + 1 },
                 stands.awaits.0,
                 (stands.horizon, nothing, refl),
                 record {
                   fair = passes_fair w q now.count now.budget run stands.fair stands.awaits.0 nothing (low_of w q run of.query stands.horizon ready.low)
-                      (none_told law w q (general_horizon q run) (rows_of closed.section) (closed.tells.all_told closed.ends)
-                      (subst (λ (shown : List Shown). Rattle.cc_general.specs.GeneralRuns.AreJudged w q (general_horizon q run) (rows_of closed.section) (map (λ (s : Shown). s.row) shown)) nothing closed.judged))
-                      closed.within;
+                      (none_told law w q (general_horizon q run) (rows_of closed.section) (closed.tells.all_told closed.ends) gone.judged)
+                      closed.within (rows_of closed.section, gone, closed.tells.all_told closed.ends);
                   horizon = (let horizon = stands.horizon in let e : now.horizon + 1 ≡ (range_of q).0 + (run.empty + 1) = omega arith in e);
                   listed = stands.listed;
                   awaits = (stands.awaits.0, nothing);
@@ -336,16 +334,18 @@ module _ (now : GeneralView) where
                 let (found, shows) = halted (halts.Alone row shown) comes w q run of stands in
                 let at = general_horizon q run in
                 let is : IsGeneral w q at row = (law w q at row).1 (
-                  candidate law w q at (rows_in found.steps) (rows_shown run) row found.first found.judged,
+                  candidate law w q at (rows_in found.steps) (rows_shown run) row found.first found.gone.judged,
                   λ other rival. in_none other (((subst (Rattle.cc_defs.specs.Histories.AreAllOf (IsRival w at row)) shows.looks.silent (shows.looks.tells.all_told shows.ends)).members other).1 rival),
-                ) in (
+                ) in
+                let gone = subst (WentThrough w q at (rows_in found.steps ++ row ∷ [])) (sym (shown_behind run row shows.section))
+                (gone_more law w q at (rows_in found.steps) (rows_shown run) row found.first found.stands.few found.gone shows.looks.within is) in (
                   record run { shown = run.shown ++ record { row = row; section = shows.section } ∷ [] },
                   stands.awaits.0,
                   (stands.horizon, (let listed = stands.listed in let e : now.listed + 1 ≡ length run.shown + 1 = omega arith in e), (shows.section, shows.lines_are, refl)),
                   record {
                     fair = shows_fair w q now.count now.budget run stands.fair row shows.section stands.awaits.0 (low_of w q run of.query stands.horizon ready.low) found.within
                         (wanting_of run stands.listed wanting)
-                        (first_told law w q at (rows_in found.steps) (rows_shown run) row found.first found.judged is stands.fair.first) (shows.looks, shows.ends);
+                        (first_told law w q at (rows_in found.steps) (rows_shown run) row found.first found.gone.judged is stands.fair.first) (rows_in found.steps ++ row ∷ [], gone) (shows.looks, shows.ends);
                     horizon = stands.horizon;
                     listed = (let listed = stands.listed in let long = length-append run.shown (record { row = row; section = shows.section } ∷ []) in omega arith);
                     awaits = (
@@ -355,8 +355,7 @@ module _ (now : GeneralView) where
                         section = section_of found.steps (Some row) None;
                         stands = found.stands;
                         lines_are = kept_is ∙ found.lines_are;
-                        judged = subst (Rattle.cc_general.specs.GeneralRuns.AreJudged w q at (rows_in found.steps ++ row ∷ [])) (sym (shown_behind run row shows.section))
-                            (judged_more law w q at (rows_in found.steps) (rows_shown run) row found.first found.judged is);
+                        gone = gone;
                       }),
                     );
                   },

@@ -21,10 +21,10 @@ use Rattle.cc_defs.specs.Sections.{Axioms}
 use Rattle.cc_form.specs.Places.{position_sizes}
 use Rattle.cc_general.specs.declared.halt.Halt.{Halt}
 use Rattle.cc_general.specs.declared.halt.Halt.TheVariants as halts
-use Rattle.cc_general.specs.GeneralRuns.{AreJudged}
+use Rattle.cc_general.specs.GeneralRuns.{ComesNext, WentThrough}
 use Rattle.cc_general.specs.Generals.{GeneralView, IsAmong}
 use Rattle.cc_general.specs.Walks.{Comes, IsClosed, IsFormedOutcome, IsFound, IsJudged, IsListingAt, IsShownBy, IsSought, IsWalkFault, halt_of}
-use Rattle.cc_general.proofs.Candidates.{candidate, judged_pass, no_history, told_below, untold}
+use Rattle.cc_general.proofs.Candidates.{gone_pass, no_history}
 use Rattle.cc_query.specs.Parts.{open_section, rows_in, section_lines, section_of, step_line}
 use Rattle.cc_query.proofs.Steps.{in_first, rows_kept, rows_more}
 use Rattle.cc_rivals.specs.Wides.{AreWideLawsOf, HistoriesHaveNoRivals, rivals_refusal}
@@ -75,6 +75,16 @@ lines_still section (said.Derived clause chain) open_yet behind = lines_step sec
 lines_still section (said.Block row) open_yet behind = lines_step section (Tell row) open_yet
 lines_still section (said.End word) open_yet behind = absurd behind
 
+-- what was found comes next
+pub next_found : (w : WideDescription) (q : Query) (budget horizon : ℕ) (told : List (List ℕ)) (search : SearchView) (lines : List LogLine) (row : List ℕ) →
+    IsFound w q budget horizon told search lines row → ComesNext w q horizon told row
+next_found w q budget horizon told search lines row found = record {
+  rows = rows_in found.steps;
+  gone = found.gone;
+  fewer = let few = found.stands.few in let long = length-append (rows_in found.steps) (row ∷ []) in omega arith;
+  first = found.first;
+}
+
 -- ---- what a search for a rival shows
 
 module _ (w : WideDescription) (budget horizon : ℕ) (row : List ℕ) (form : Axioms) (is : form ≡ rival_axioms w horizon row)
@@ -93,9 +103,11 @@ module _ (w : WideDescription) (budget horizon : ℕ) (row : List ℕ) (form : A
   }
 
   pub sought_of : (outcome : Outcome) → IsOutcome form budget outcome → IsSought w budget horizon row outcome
-  sought_of (outcomes.Found other) found =
-      (first_moved (rival_axioms w horizon row) (IsRival w horizon row) tells (other ∷ [])
-      (subst (λ (x : Axioms). IsOutcome x budget (outcomes.Found other)) is found)).each other (in_first other [])
+  sought_of (outcomes.Found other) found = (
+    (first_moved (rival_axioms w horizon row) (IsRival w horizon row) tells (other ∷ [])
+        (subst (λ (x : Axioms). IsOutcome x budget (outcomes.Found other)) is found)).each other (in_first other []),
+    within,
+  )
   sought_of (outcomes.Empty lines) ended = shown_by words.Empty lines (subst (λ (x : Axioms). IsEnded x budget words.Empty lines) is ended)
   sought_of (outcomes.Spent lines) ended = shown_by words.Spent lines (subst (λ (x : Axioms). IsEnded x budget words.Spent lines) is ended)
 
@@ -138,7 +150,7 @@ module _ (law : HistoriesHaveNoRivals) (general : GeneralView) (old : SearchView
           many = many.many;
           further = many.further;
           first = first_moved (candidate_axioms w q general.horizon) (IsCandidate w q general.horizon) (tells_of w q laws query) (rows_of among.section ++ many.further ∷ []) many.first;
-          judged = among.judged;
+          gone = among.gone;
         },
       )
 
@@ -158,7 +170,7 @@ module _ (law : HistoriesHaveNoRivals) (general : GeneralView) (old : SearchView
             section = line_behind among.section line;
             stands = stands;
             lines_are = ap (λ (l : List LogLine). l ++ line ∷ []) among.lines_are ∙ lines_still among.section line behind.0 behind.1;
-            judged = subst (λ (rows : List (List ℕ)). AreJudged w q general.horizon rows told) (sym (rows_still among.section line behind.1)) among.judged;
+            gone = subst (λ (rows : List (List ℕ)). WentThrough w q general.horizon rows told) (sym (rows_still among.section line behind.1)) among.gone;
           };
       ready =
           let (behind, stands) = next listing.axioms None general.budget listing.section listing.stands in
@@ -207,7 +219,7 @@ module _ (law : HistoriesHaveNoRivals) (general : GeneralView) (old : SearchView
             first = first_moved (candidate_axioms w q general.horizon) (IsCandidate w q general.horizon) (tells_of w q laws query)
                 (rows_in among.section.steps ++ new.row ∷ []) stands.tells.first;
             lines_are = among.lines_are ∙ lines_open among.section behind.0 ∙ sym (append-nil (map step_line among.section.steps));
-            judged = subst (λ (rows : List (List ℕ)). AreJudged w q general.horizon rows told) (rows_before among.section behind.1) among.judged;
+            gone = subst (λ (rows : List (List ℕ)). WentThrough w q general.horizon rows told) (rows_before among.section behind.1) among.gone;
           }
 
       -- with this many told it is ready behind the row
@@ -241,8 +253,8 @@ module _ (law : HistoriesHaveNoRivals) (general : GeneralView) (old : SearchView
               section = section_of found.steps (Some new.row) None;
               stands = found.stands;
               lines_are = found.lines_are;
-              judged = judged_pass law w q general.horizon (rows_in found.steps) told new.row found.first found.judged
-                  (no_history law w q general.horizon new.row other (sought w laws));
+              gone = gone_pass law w q general.horizon (rows_in found.steps) told new.row found.first found.stands.few found.gone (sought w laws).1
+                  (no_history law w q general.horizon new.row other (sought w laws).0);
             };
         ready = ready_row general.listed (omega arith) more;
         less = less;
@@ -263,13 +275,7 @@ module _ (law : HistoriesHaveNoRivals) (general : GeneralView) (old : SearchView
       judge_fault faults.OutOfMemory refused = tt
       judge_fault (faults.Refused refusal) refused = λ w q told laws query among.
           let found = found_at w q told laws query among in
-          inl (
-            new.row,
-            candidate law w q general.horizon (rows_in found.steps) told new.row found.first found.judged,
-            untold law w q general.horizon (rows_in found.steps) told new.row found.first found.judged,
-            told_below law w q general.horizon (rows_in found.steps) told new.row found.first found.judged,
-            refused w laws,
-          )
+          inl (new.row, next_found w q general.budget general.horizon told new before new.row found, refused w laws)
 
     module _ (find : Find) (is : find ≡ finds.Row) (next : Next find) where
       row_next : Next finds.Row
@@ -315,7 +321,7 @@ module _ (law : HistoriesHaveNoRivals) (general : GeneralView) (old : SearchView
                 (section_of among.section.steps among.section.last (Some word)) stands.tells;
             ends = refl;
             lines_are = ap (λ (l : List LogLine). l ++ said.End word ∷ []) (among.lines_are ∙ lines_open among.section behind);
-            judged = among.judged;
+            gone = among.gone;
           }
 
       pub end_comes : (halt : Halt) → (word ≡ words.Empty → halt ≡ halts.Exhausted) → (word ≡ words.Spent → halt ≡ halts.SpentAmong) → left_of new < left_of old →

@@ -1,6 +1,7 @@
 -- Logs of rivals: which are accepted, and what that shows.
 use Rattle.std.specs.Prelude.{◌≡◌, ℕ, ◌≤◌, List, Contains}
 use Rattle.std.specs.List.{AllByRecursion}
+use Rattle.std.specs.Option.{option_or}
 use Rattle.cc_check.specs.Silent.{SilentSubject}
 use Rattle.cc_check.specs.declared.silent.SilentVerdict.{SilentVerdict}
 use Rattle.cc_check.specs.declared.silent.SilentVerdict.TheVariants as verdicts
@@ -8,8 +9,10 @@ use Rattle.cc_defs.specs.declared.lists.Key.{Key}
 use Rattle.cc_defs.specs.LogTexts.{IsShort, lines_in}
 use Rattle.cc_defs.specs.Resolved.{Query}
 use Rattle.cc_defs.specs.Runs.{range_of}
+use Rattle.cc_general.specs.declared.verdict.GeneralVerdict.{GeneralVerdict}
+use Rattle.cc_general.specs.declared.verdict.GeneralVerdict.TheVariants as found
 use Rattle.cc_general.specs.GeneralTold.{general_header, rivals_heading}
-use Rattle.cc_rivals.specs.Wides.{rivals_refusal}
+use Rattle.cc_rivals.specs.Wides.{candidates_refusal, rivals_refusal}
 use Rattle.cc_wide.specs.WideLaws.{WideDescription}
 use Rattle.cc_wide.specs.WideLists.{rival_axioms}
 use Rattle.cc_wide.specs.WideRules.{IsCandidate, IsGeneral}
@@ -26,15 +29,20 @@ pub record IsCandidateKey (w : WideDescription) (q : Query) (key : Key) : Type 0
   pub most : key.horizon ≤ (range_of q).1
   pub candidate : IsCandidate w q key.horizon key.row
 
--- what a log of rivals is read as
+-- What a log of rivals is read as. The first limit is that of the candidates of a heading's horizon, and behind it that of the rivals.
 abbrev pub general_subject : WideDescription → Query → SilentSubject Key
 general_subject w q = record {
   header = general_header;
   Reads = IsRivalsHeading;
   Right = IsCandidateKey w q;
   axioms = λ key. rival_axioms w key.horizon key.row;
-  limit = λ key. rivals_refusal w key.horizon key.row;
+  limit = λ key. option_or (candidates_refusal w q key.horizon) (rivals_refusal w key.horizon key.row);
 }
+
+-- what is said of a log of rivals, as what is said of a log of silent sections
+abbrev pub as_silent : GeneralVerdict → SilentVerdict
+as_silent (found.Accepted histories) = verdicts.Accepted histories
+as_silent (found.Refused line cause) = verdicts.Refused line cause
 
 -- Where a log is accepted, each row that it names is a history.
 abbrev pub ProvesHistories : WideDescription → Query → List ℕ → SilentVerdict → Type 0

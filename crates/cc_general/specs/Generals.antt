@@ -20,7 +20,7 @@ use Rattle.cc_general.specs.declared.event.GeneralEvent.{GeneralEvent}
 use Rattle.cc_general.specs.declared.event.GeneralEvent.TheVariants as events
 use Rattle.cc_general.specs.declared.phase.Phase.{Phase}
 use Rattle.cc_general.specs.declared.phase.Phase.TheVariants as phases
-use Rattle.cc_general.specs.GeneralRuns.{AreJudged, GeneralEnding, Complete, Asked, NoneAtAll, SpentAmong, SpentOver, GeneralRun, IsFairGeneral, ReachesGeneralLimit, general_horizon, rows_shown}
+use Rattle.cc_general.specs.GeneralRuns.{WentThrough, GeneralEnding, Complete, Asked, NoneAtAll, SpentAmong, SpentOver, GeneralRun, IsFairGeneral, ReachesGeneralLimit, general_horizon, rows_shown}
 use Rattle.cc_general.specs.GeneralTold.{ending_of}
 use Rattle.cc_query.specs.Accepted.{AreGoodAxioms}
 use Rattle.cc_query.specs.Parts.{section_lines}
@@ -59,13 +59,13 @@ pub record IsGeneralOf (general : GeneralView) (w : WideDescription) (q : Query)
 
 -- ---- what a run leaves
 
--- The candidates of its horizon are searched, with these lines so far: of the rows that were found, the histories were told.
+-- The candidates of its horizon are searched, with these lines so far; the rows that were found were gone through.
 pub record IsAmong (w : WideDescription) (q : Query) (budget horizon : ℕ) (told : List (List ℕ)) (search : SearchView) (lines : List LogLine) : Type 0 where
   pub within : candidates_refusal w q horizon ≡ None
   pub section : Section
   pub stands : searches.Stands (candidate_axioms w q horizon) None budget search section
   pub lines_are : lines ≡ section_lines section
-  pub judged : AreJudged w q horizon (rows_of section) told
+  pub gone : WentThrough w q horizon (rows_of section) told
 
 -- it is right that this comes next: a horizon is opened, or its candidates are searched, or the run has ended
 abbrev pub Awaits : WideDescription → Query → GeneralView → GeneralRun → Phase → Type 0

@@ -45,7 +45,8 @@ pub record AreRivals (rivals : RivalsView) : Type 0 where
   pub most : rivals.query.hi ≤ most_steps
   pub steps : (horizon : ℕ) → rivals.query.lo ≤ horizon → horizon ≤ rivals.query.hi → IsQueryAt rivals.signature horizon rivals.query
 
--- a key is a row of the positions of its horizon, which has few steps
+-- a key is a row of the positions of its horizon, which is one of the query's
 pub record IsRowKey (rivals : RivalsView) (key : Key) : Type 0 where
-  pub few : key.horizon ≤ most_steps
+  pub least : rivals.query.lo ≤ key.horizon
+  pub most : key.horizon ≤ rivals.query.hi
   pub is_row : IsRow (position_sizes rivals.signature key.horizon) key.row

@@ -1,5 +1,5 @@
 -- The walk over the candidates of a horizon: what it knows, and what it comes to.
-use Rattle.std.specs.Prelude.{◌≡◌, ◌⊎◌, ℕ, ◌+◌, ◌<◌, List, [], ◌∷◌, ◌++◌, Option, Some, None, Contains}
+use Rattle.std.specs.Prelude.{◌≡◌, ◌⊎◌, ℕ, ◌+◌, ◌<◌, List, [], ◌∷◌, ◌++◌, Option, Some, None}
 use Rattle.std.specs.Global.{Vec}
 use Rattle.std.specs.List.{AllByRecursion}
 use Rattle.cc_clauses.specs.Tells.{Tells}
@@ -24,7 +24,7 @@ use Rattle.cc_general.specs.declared.event.GeneralEvent.{GeneralEvent}
 use Rattle.cc_general.specs.declared.halt.Halt.{Halt}
 use Rattle.cc_general.specs.declared.halt.Halt.TheVariants as halts
 use Rattle.cc_general.specs.declared.phase.Phase.TheVariants as phases
-use Rattle.cc_general.specs.GeneralRuns.{AreJudged, AreToldBelow, GeneralRun, HasManyCandidates, LooksForRival}
+use Rattle.cc_general.specs.GeneralRuns.{ComesNext, GeneralRun, HasManyCandidates, LooksForRival, WentThrough}
 use Rattle.cc_general.specs.Generals.{GeneralView, GoesOn, IsAmong, IsGeneralOf, IsGoodEvent, IsListing, IsWritable, Stands, TellsNext, left_of}
 use Rattle.cc_query.specs.Accepted.{AreGoodAxioms}
 use Rattle.cc_query.specs.Parts.{open_section, rows_in, section_lines, section_of}
@@ -55,7 +55,7 @@ pub record IsShownBy (w : WideDescription) (budget horizon : ℕ) (row : List �
 
 -- what comes of the search for a rival
 abbrev pub IsSought : WideDescription → (budget horizon : ℕ) → List ℕ → Outcome → Type 0
-IsSought w budget horizon row (outcomes.Found other) = IsRival w horizon row other
+IsSought w budget horizon row (outcomes.Found other) = IsRival w horizon row other × (rivals_refusal w horizon row ≡ None)
 IsSought w budget horizon row (outcomes.Empty lines) = IsShownBy w budget horizon row words.Empty lines
 IsSought w budget horizon row (outcomes.Spent lines) = IsShownBy w budget horizon row words.Spent lines
 
@@ -87,7 +87,7 @@ pub record IsFound (w : WideDescription) (q : Query) (budget horizon : ℕ) (tol
   pub stands : searches.Stands (candidate_axioms w q horizon) None budget search (section_of steps (Some row) None)
   pub first : AreFirstOf (IsCandidate w q horizon) (rows_in steps ++ row ∷ [])
   pub lines_are : lines ≡ section_lines (open_section steps)
-  pub judged : AreJudged w q horizon (rows_in steps) told
+  pub gone : WentThrough w q horizon (rows_in steps) told
 
 -- the search among the candidates has ended so, with these lines before the end line
 pub record IsClosed (w : WideDescription) (q : Query) (budget horizon : ℕ) (told : List (List ℕ)) (lines : List LogLine) (word : EndWord) : Type 0 where
@@ -96,7 +96,7 @@ pub record IsClosed (w : WideDescription) (q : Query) (budget horizon : ℕ) (to
   pub tells : TellsRows (IsCandidate w q horizon) (candidate_axioms w q horizon) None budget section
   pub ends : EndsWith word section
   pub lines_are : lines ++ said.End word ∷ [] ≡ section_lines section
-  pub judged : AreJudged w q horizon (rows_of section) told
+  pub gone : WentThrough w q horizon (rows_of section) told
 
 abbrev pub HaltsAt : WideDescription → Query → (budget horizon : ℕ) → (told : List (List ℕ)) → SearchView → List LogLine → Halt → Type 0
 HaltsAt w q budget horizon told search lines (halts.Alone row shown) =
@@ -137,8 +137,7 @@ pub record Comes (general : GeneralView) (old : SearchView) (before : List LogLi
 -- the limit of the next candidate's rivals, or that of candidates
 abbrev pub IsWalkLimit : WideDescription → Query → (horizon : ℕ) → (told : List (List ℕ)) → Refusal → Type 0
 IsWalkLimit w q horizon told refusal =
-    ((row : List ℕ) × IsCandidate w q horizon row × (Contains told row → ⊥) × AreToldBelow w q horizon row told
-    × (rivals_refusal w horizon row ≡ Some refusal))
+    ((row : List ℕ) × ComesNext w q horizon told row × (rivals_refusal w horizon row ≡ Some refusal))
     ⊎ ((refusal ≡ past limits.Histories) × HasManyCandidates w q horizon told)
 
 abbrev pub IsWalkFault : GeneralView → SearchView → List LogLine → Fault → Type 0

@@ -6,18 +6,19 @@ ghost use Rattle.cc_defs.specs.GroundLaws.{StandsForQuery};
 ghost use Rattle.cc_defs.specs.Limits.{most_log_bytes, most_steps};
 ghost use Rattle.cc_defs.specs.Resolved.{Query};
 ghost use Rattle.cc_form.specs.Queries.{IsQueryAt};
-ghost use Rattle.cc_general.specs.GeneralLogs.{IsRivalsHeading, ProvesHistories, general_subject};
+ghost use Rattle.cc_general.specs.GeneralLogs.{IsRivalsHeading, ProvesHistories, as_silent, general_subject};
 ghost use Rattle.cc_general.specs.RivalParts.{AreIndexes, IsHorizonAt, IsRowText};
 ghost use Rattle.cc_rivals.specs.Wides.{AreWideLawsFor, AreWideLawsOf};
 ghost use Rattle.cc_wide.specs.WideLaws.{WideDescription, frame};
 
+use crate::verdict::GeneralVerdict;
 use cc_arena::GroundQuery;
 use cc_check::laws::silent_sections_have_no_rows;
-use cc_check::{Silent, SilentVerdict, judge_silent, number_at};
+use cc_check::{Silent, judge_silent, number_at};
 use cc_defs::{Fault, Key, OutOfMemory, Row, Sig};
 use cc_form::Form;
 use cc_rivals::laws::{histories_have_no_rivals, rival_lists_tell_rivals};
-use cc_rivals::{is_candidate, rivals};
+use cc_rivals::{candidates, is_candidate, rivals};
 use cc_wide::WideGround;
 use std::alloc::Global;
 use std::marker::Model;
@@ -193,6 +194,8 @@ impl<'a> Silent for Rivals<'a> {
     }
 
     fn form(&self, alloc: Global, key: &Key) -> Result<Form, Fault> {
+        let listed = candidates(alloc, self.sig, self.laws, self.query, key.horizon)?;
+        drop(listed);
         rivals(alloc, self.sig, self.laws, key.horizon, key.row.items())
     }
 }
@@ -200,14 +203,14 @@ impl<'a> Silent for Rivals<'a> {
 /// What a checker says of the bytes of a log of rivals: that it is accepted where each section is right, has no block and ends with
 /// `empty`, under the heading of a candidate of a horizon of the range. Each row that an accepted log names is a history; that they
 /// are all is not said. A heading may come twice, and there may be no section. Refuses the first limit that the rules or clauses of
-/// a candidate's rivals pass which has right sections before it (14).
+/// the candidates of a heading's horizon, or of its row's rivals, pass where right sections stand before it (14).
 pub fn check_general(
     alloc: Global,
     sig: &Sig,
     laws: &WideGround<'_>,
     query: &GroundQuery<'_>,
     bytes: &[u8],
-) -> Result<SilentVerdict, Fault>
+) -> Result<GeneralVerdict, Fault>
     requires laws { AreWideLawsFor sig.now laws.now }
     requires ordered { query.now.lo ≤ query.now.hi }
     requires most { query.now.hi ≤ most_steps }
@@ -216,19 +219,20 @@ pub fn check_general(
     requires few { length bytes.now ≤ most_log_bytes }
     ensures verdict { (w : WideDescription) (q : Query) → AreWideLawsOf sig.now laws.now w →
         StandsForQuery (plain_ground_query query.now) (frame w) q →
-        IfOk result (IsSilentVerdict (general_subject w q) bytes.now) }
+        IfOk result (λ found. IsSilentVerdict (general_subject w q) bytes.now (as_silent found)) }
     ensures within { (w : WideDescription) (q : Query) → AreWideLawsOf sig.now laws.now w →
         StandsForQuery (plain_ground_query query.now) (frame w) q →
-        IfOk result (IsSilentVerdictWithin (general_subject w q) bytes.now) }
+        IfOk result (λ found. IsSilentVerdictWithin (general_subject w q) bytes.now (as_silent found)) }
     ensures refused { (w : WideDescription) (q : Query) → AreWideLawsOf sig.now laws.now w →
         StandsForQuery (plain_ground_query query.now) (frame w) q →
         IfErr result (IsSilentFault (general_subject w q) bytes.now) }
     ensures proves { (w : WideDescription) (q : Query) → AreWideLawsOf sig.now laws.now w →
         StandsForQuery (plain_ground_query query.now) (frame w) q →
-        IfOk result (ProvesHistories w q bytes.now) }
+        IfOk result (λ found. ProvesHistories w q bytes.now (as_silent found)) }
 {
     silent_sections_have_no_rows();
     histories_have_no_rivals();
     rival_lists_tell_rivals();
-    judge_silent(alloc, &Rivals { sig, laws, query }, bytes)
+    let verdict = judge_silent(alloc, &Rivals { sig, laws, query }, bytes)?;
+    Ok(GeneralVerdict::from(verdict))
 }

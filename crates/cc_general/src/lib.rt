@@ -8,7 +8,9 @@ mod general;
 mod halt;
 pub mod laws;
 mod phase;
+mod verdict;
 
 pub use check::check_general;
 pub use event::GeneralEvent;
 pub use general::General;
+pub use verdict::GeneralVerdict;
