@@ -1,10 +1,7 @@
 -- What is right of a heading, and the axioms under it.
-use Rattle.std.proofs.Common.{◌≡◌, ◌∙◌, ℕ, ◌≤◌, List, Option, None, Result, Ok, Err, IfOk, IfErr, OnOk, sym, subst, ap, arith, slice_get}
+use Rattle.std.proofs.Common.{◌≡◌, ◌∙◌, ℕ, ◌≤◌, Option, None, Result, Ok, Err, IfOk, IfErr, OnOk, sym, subst, ap, arith, slice_get}
 use Rattle.std.specs.Prelude.{◌↔◌, Bool, IsTrue, true, false, unwrap_or}
 use Rattle.std.specs.Option.{option_or}
-use Rattle.cc_check.specs.declared.silent.SilentVerdict.{SilentVerdict}
-use Rattle.cc_check.specs.Laws.{SilentSectionsHaveNoRows}
-use Rattle.cc_check.specs.Silent.{IsSilentVerdict}
 use Rattle.cc_defs.specs.declared.refusal.Fault.{Fault}
 use Rattle.cc_defs.specs.declared.refusal.Fault.TheVariants as faults
 use Rattle.cc_defs.specs.declared.refusal.Refusal.{Refusal}
@@ -16,12 +13,11 @@ use Rattle.cc_defs.specs.Resolved.{Query}
 use Rattle.cc_defs.specs.Runs.{axioms_of, range_of}
 use Rattle.cc_defs.specs.Sections.{Axioms}
 use Rattle.cc_form.specs.Building.{count_refusal}
-use Rattle.cc_form.specs.Forms.{TellsHistories, form_of, section_refusal, with_atom}
+use Rattle.cc_form.specs.Forms.{form_of, section_refusal, with_atom}
 use Rattle.cc_sure.specs.declared.check.AtomHeading.{AtomHeading}
 use Rattle.cc_sure.specs.Sought.{IsAtomAt, With, sought_axioms, sought_refusal}
-use Rattle.cc_sure.specs.SureLogs.{IsInRange, RefutesAtoms, sure_subject}
+use Rattle.cc_sure.specs.SureLogs.{IsInRange}
 use Rattle.cc_sure.specs.SureParts.{AreAtomsOf, AtomsView, HasAtom}
-use Rattle.cc_sure.proofs.Refuting.{refutes}
 
 pub range_stands : (query : PlainGroundQuery) (d : Description) (q : Query) → StandsForQuery query d q → ((range_of q).0 ≡ query.lo) × ((range_of q).1 ≡ query.hi)
 range_stands query d q (range, there, made) = (
@@ -77,8 +73,3 @@ pub not_right : (atoms : AtomsView) (d : Description) (q : Query) → AreAtomsOf
     ((atoms.query.lo ≤ heading.horizon) × (heading.horizon ≤ atoms.query.hi) → ⊥) → IsInRange d q heading → ⊥
 not_right atoms d q of heading out right =
     let range = range_stands atoms.query d q of.query in let lo = range.0 in let hi = range.1 in let least = right.least in let most = right.most in out (omega arith, omega arith)
-
-pub refutes_ok : (r : Result SilentVerdict Fault) (d : Description) (q : Query) (bytes : List ℕ) → SilentSectionsHaveNoRows → IfOk r (IsSilentVerdict (sure_subject d q) bytes) →
-    ((horizon : ℕ) → (range_of q).0 ≤ horizon → horizon ≤ (range_of q).1 → TellsHistories d q horizon None (form_of d q horizon true None)) → IfOk r (RefutesAtoms d q bytes)
-refutes_ok (Ok verdict) d q bytes law is tells = refutes law d q bytes verdict is tells
-refutes_ok (Err fault) d q bytes law is tells = tt

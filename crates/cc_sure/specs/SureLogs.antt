@@ -8,6 +8,8 @@ use Rattle.cc_defs.specs.LogTexts.{IsShort, lines_in}
 use Rattle.cc_defs.specs.Resolved.{Query}
 use Rattle.cc_defs.specs.Runs.{range_of}
 use Rattle.cc_sure.specs.declared.check.AtomHeading.{AtomHeading}
+use Rattle.cc_sure.specs.declared.verdict.SureVerdict.{SureVerdict}
+use Rattle.cc_sure.specs.declared.verdict.SureVerdict.TheVariants as found
 use Rattle.cc_sure.specs.Sought.{IsAtomAt, IsSought, With, sought_axioms, sought_refusal}
 use Rattle.cc_sure.specs.SureTold.{atom_heading, sure_header}
 
@@ -33,6 +35,11 @@ sure_subject d q = record {
   axioms = λ heading. sought_axioms d q heading.horizon (With heading.position heading.value);
   limit = λ heading. sought_refusal d q heading.horizon (With heading.position heading.value);
 }
+
+-- what is said of a log of impossible atoms, as what is said of a log of silent sections
+abbrev pub as_silent : SureVerdict → SilentVerdict
+as_silent (found.Accepted impossible) = verdicts.Accepted impossible
+as_silent (found.Refused line cause) = verdicts.Refused line cause
 
 -- Where a log is accepted, no history has an atom that it names.
 abbrev pub RefutesAtoms : Description → Query → List ℕ → SilentVerdict → Type 0

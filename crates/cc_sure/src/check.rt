@@ -12,14 +12,15 @@ ghost use Rattle.cc_form.specs.Building.{count_refusal};
 ghost use Rattle.cc_form.specs.Forms.{with_atom};
 ghost use Rattle.cc_form.specs.Queries.{IsQueryAt};
 ghost use Rattle.cc_sure.specs.Sought.{IsAtomAt};
-ghost use Rattle.cc_sure.specs.SureLogs.{IsAtomHeading, RefutesAtoms, sure_subject};
+ghost use Rattle.cc_sure.specs.SureLogs.{IsAtomHeading, RefutesAtoms, as_silent, sure_subject};
 ghost use Rattle.cc_sure.specs.SureParts.{HasAtom, HasNoPart, IsLastPart, IsPart};
 ghost use Rattle.cc_theory.specs.Theories.{AreLawsFor, AreLawsOf};
 
 use crate::sure::size_at;
+use crate::verdict::SureVerdict;
 use cc_arena::{GroundQuery, Laws};
 use cc_check::laws::silent_sections_have_no_rows;
-use cc_check::{Silent, SilentVerdict, judge_silent, number_at};
+use cc_check::{Silent, judge_silent, number_at};
 use cc_defs::laws::positions_have_sizes;
 use cc_defs::{Fault, OutOfMemory, Sig};
 use cc_form::Form;
@@ -232,7 +233,7 @@ pub fn check_sure(
     laws: &Laws<'_>,
     query: &GroundQuery<'_>,
     bytes: &[u8],
-) -> Result<SilentVerdict, Fault>
+) -> Result<SureVerdict, Fault>
     requires laws { AreLawsFor sig.now laws.now }
     requires ordered { query.now.lo ≤ query.now.hi }
     requires most { query.now.hi ≤ most_steps }
@@ -241,17 +242,19 @@ pub fn check_sure(
     requires few { length bytes.now ≤ most_log_bytes }
     ensures verdict { (d : Description) (q : Query) →
         AreLawsOf sig.now laws.now d → StandsForQuery (plain_ground_query query.now) d q →
-        IfOk result (IsSilentVerdict (sure_subject d q) bytes.now) }
+        IfOk result (λ found. IsSilentVerdict (sure_subject d q) bytes.now (as_silent found)) }
     ensures within { (d : Description) (q : Query) →
         AreLawsOf sig.now laws.now d → StandsForQuery (plain_ground_query query.now) d q →
-        IfOk result (IsSilentVerdictWithin (sure_subject d q) bytes.now) }
+        IfOk result (λ found. IsSilentVerdictWithin (sure_subject d q) bytes.now (as_silent found)) }
     ensures refused { (d : Description) (q : Query) →
         AreLawsOf sig.now laws.now d → StandsForQuery (plain_ground_query query.now) d q →
         IfErr result (IsSilentFault (sure_subject d q) bytes.now) }
     ensures refutes { (d : Description) (q : Query) → AreLawsOf sig.now laws.now d → StandsForQuery
-        (plain_ground_query query.now) d q → IfOk result (RefutesAtoms d q bytes.now) }
+        (plain_ground_query query.now) d q →
+        IfOk result (λ found. RefutesAtoms d q bytes.now (as_silent found)) }
 {
     silent_sections_have_no_rows();
     lists_tell_histories();
-    judge_silent(alloc, &Atoms { sig, laws, query }, bytes)
+    let verdict = judge_silent(alloc, &Atoms { sig, laws, query }, bytes)?;
+    Ok(SureVerdict::from(verdict))
 }

@@ -8,7 +8,9 @@ mod examples;
 pub mod laws;
 mod phase;
 mod sure;
+mod verdict;
 
 pub use answer::{Answer, SureEvent};
 pub use check::{AtomHeading, check_sure};
 pub use sure::Sure;
+pub use verdict::SureVerdict;
