@@ -15,5 +15,5 @@ pub use histories::history_text;
 pub use keys::read_key;
 pub use models::{model_text, models_verdict_text};
 pub use summaries::summary_text;
-pub use texts::{event_text, key_line, key_text, refusal_text};
+pub use texts::{event_text, example_text, key_line, key_text, refusal_text};
 pub use verdicts::verdict_text;

@@ -69,6 +69,15 @@ fn history_line(alloc: Global, horizon: u32, number: u32) -> Result<Text, OutOfM
     horizon_line(alloc, horizon, &said)
 }
 
+/// The line before an example, its line feed included. Examples are numbered from 1.
+pub fn example_text(alloc: Global, horizon: u32, number: u32) -> Result<Text, OutOfMemory>
+    ensures { IfOk result (λ text.
+        text ≡ events.of_horizon horizon (codes "example " ++ decimal number)) }
+{
+    let text = format!(in alloc; "horizon {horizon}: example {number}\n")?;
+    Ok(Text::of(text))
+}
+
 /// A line that says how many histories were listed at a horizon.
 fn listed_line(alloc: Global, horizon: u32, said: &str, listed: u32) -> Result<Text, OutOfMemory>
     ensures { IfOk result (λ text.

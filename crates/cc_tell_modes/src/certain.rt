@@ -22,20 +22,11 @@ ghost use Rattle.cc_tell_modes.specs.SureTexts as sures;
 
 use cc_defs::{Event, LogLine, OutOfMemory, Sig, Text};
 use cc_ports::{Desk, To};
-use cc_print::atom_text;
+use cc_print::{atom_text, example_text};
 use cc_sorts::Table;
 use cc_sure::{Answer, SureEvent};
 use cc_tell::{Status, Stop, give, give_made, tell_event, tell_line, tell_row};
 use std::alloc::Global;
-
-/// The line before an example.
-fn example_line(alloc: Global, horizon: u32, number: u32) -> Result<Text, OutOfMemory>
-    ensures { IfOk result (λ line.
-        line ≡ of_horizon horizon (codes "example " ++ decimal number)) }
-{
-    let line = format!(in alloc; "horizon {horizon}: example {number}\n")?;
-    Ok(Text::of(line))
-}
 
 /// Gives an example and its key to Out, behind the line with its number.
 fn tell_example<D: Desk>(
@@ -55,7 +46,7 @@ fn tell_example<D: Desk>(
         ++ (history_text d horizon row.now ++ key_line horizon row.now))) (D.seen desk.old)
         (D.seen desk.new) result }
 {
-    give_made(desk, To::Out, example_line(alloc, horizon, number))?;
+    give_made(desk, To::Out, example_text(alloc, horizon, number))?;
     tell_row(alloc, desk, table, sig, horizon, row)
 }
 
