@@ -57,14 +57,14 @@ module _ (axioms : Axioms) (version : Version) (count : Option ℕ) (budget : �
     more_told given grows (Ok status) step none keeps = record {
       next = next;
       ends = None;
-      more = record { tells = stands.tells; err = []; how = refl; given = given; grows = grows; step = step };
+      more = record { tells = stands.tells; few = stands.few; err = []; how = refl; given = given; grows = grows; step = step };
       ended = sym none;
       keeps = λ _. keeps;
     }
     more_told given grows (Err stop) step none keeps = record {
       next = next;
       ends = None;
-      more = record { tells = stands.tells; err = []; how = refl; given = given; grows = grows; step = step };
+      more = record { tells = stands.tells; few = stands.few; err = []; how = refl; given = given; grows = grows; step = step };
       ended = tt;
       keeps = tt;
     }
@@ -160,6 +160,7 @@ module _ (axioms : Axioms) (version : Version) (count : Option ℕ) (budget : �
         ends = Some (models_status lister.listed word);
         more = record {
           tells = stands.tells;
+          few = stands.few;
           err = [];
           how = inl (word, refl, refl, ap (λ (n : ℕ). models_status n word) listed);
           given = _;
@@ -192,6 +193,7 @@ module _ (axioms : Axioms) (version : Version) (count : Option ℕ) (budget : �
     ends = Some statuses.Refused;
     more = record {
       tells = at.stands.tells;
+      few = at.stands.few;
       err = refusal_text refusal [];
       how = inr (many.open_yet, many, ap (λ (f : Refusal). refusal_text f []) past_is, refl);
       given = only_err (refusal_text refusal []);
@@ -268,6 +270,7 @@ module _ (axioms : Axioms) (version : Version) (count : Option ℕ) (budget : �
     ends = None;
     more = record {
       tells = at.stands.tells;
+      few = at.stands.few;
       err = [];
       how = refl;
       given = nothing;
@@ -330,6 +333,7 @@ module _ (start now next : Lister) (initial search found : SearchView) (old mid 
       TellsMore axioms start.version count budget (told_of axioms start.version section) last ends old new s
   more_behind s axioms count budget section last ends so_far more = record {
     tells = more.tells;
+    few = more.few;
     err = more.err;
     how = more.how;
     given = joined so_far.given more.given;
@@ -351,7 +355,7 @@ module _ (start now next : Lister) (initial search found : SearchView) (old mid 
         section = find.next;
         ends = find.ends;
         more = more_behind ended axioms count budget section find.next find.ends so_far
-            (record { tells = more.tells; err = more.err; how = more.how; given = more.given; grows = more.grows; step = step_done more.given mid new done (Some status) status more.step refl });
+            (record { tells = more.tells; few = more.few; err = more.err; how = more.how; given = more.given; grows = more.grows; step = step_done more.given mid new done (Some status) status more.step refl });
         ended = find.ended;
       }
 
@@ -368,7 +372,7 @@ module _ (start now next : Lister) (initial search found : SearchView) (old mid 
         section = find.next;
         ends = find.ends;
         more = more_behind stopped axioms count budget section find.next find.ends so_far
-            (record { tells = more.tells; err = more.err; how = more.how; given = more.given; grows = more.grows; step = step_again more.given mid new r e stopped more.step was same });
+            (record { tells = more.tells; few = more.few; err = more.err; how = more.how; given = more.given; grows = more.grows; step = step_again more.given mid new r e stopped more.step was same });
         ended = tt;
       }
 
@@ -406,7 +410,7 @@ module _ (start now next : Lister) (initial search found : SearchView) (old mid 
           let unit : Result (Unit {0}) Stop = Ok tt in
           let more = find.more in
           let behind = more_behind unit axioms count budget section find.next find.ends before
-          (record { tells = more.tells; err = more.err; how = more.how; given = more.given; grows = more.grows; step = step_done more.given mid new done none tt more.step refl }) in
+          (record { tells = more.tells; few = more.few; err = more.err; how = more.how; given = more.given; grows = more.grows; step = step_done more.given mid new done none tt more.step refl }) in
           record {
             section = find.next;
             at = find.keeps refl;
@@ -434,7 +438,7 @@ listing_cut axioms version count budget search x y r e (Err d) stands step was s
     record {
       section = open_section [];
       ends = None;
-      more = record { tells = stands.tells; err = []; how = refl; given = front; grows = begun_is axioms version; step = step_again front x y r e stopped step was same };
+      more = record { tells = stands.tells; few = stands.few; err = []; how = refl; given = front; grows = begun_is axioms version; step = step_again front x y r e stopped step was same };
       ended = tt;
     }
 
@@ -449,6 +453,7 @@ listing_told axioms version count budget x y z r v s step was listing =
       ends = listing.ends;
       more = record {
         tells = more.tells;
+        few = more.few;
         err = more.err;
         how = more.how;
         given = joined front more.given;

@@ -231,6 +231,7 @@ prints_listing {X = X} modelling cnf form names x y z b v r named of is at was l
       is = is;
       section = told.section;
       tells = told_moved axioms (IsModelOf cnf) (subst (λ (a : Axioms). Tells a (IsModelOf cnf)) of.form_is of.tells) modelling.count modelling.budget told.section more.tells;
+      few = more.few;
       out = refl;
       log = refl;
       begun = refl;

@@ -4,7 +4,7 @@ use Rattle.cc_clauses.specs.RowsOf.{IsRowOf}
 use Rattle.cc_defs.specs.declared.log.EndWord.{EndWord}
 use Rattle.cc_defs.specs.declared.log.Version.{Version}
 use Rattle.cc_defs.specs.declared.refusal.LimitAt.TheVariants as limits
-use Rattle.cc_defs.specs.Limits.{most_clauses, most_cnf_variables, most_variables}
+use Rattle.cc_defs.specs.Limits.{most_clauses, most_cnf_variables, most_histories, most_variables}
 use Rattle.cc_defs.specs.LogVersions.{counts_in, log_in}
 use Rattle.cc_defs.specs.Refusals.{past}
 use Rattle.cc_defs.specs.Runs.{Section, TellsRows, rows_of, section_events}
@@ -59,6 +59,7 @@ EndsListing axioms section err (Some status) =
 -- Behind what was told before, a step tells more, up to this section.
 pub record TellsMore {X : Type 0} (axioms : Axioms) (version : Version) (count : Option ℕ) (budget : ℕ) (before : Given) (section : Section) (ends : Option Status) (old new : Moment) (result : Result X Stop) : Type 0 where
   pub tells : TellsRows (IsRowOf axioms.sizes axioms.clauses) axioms count budget section
+  pub few : length (rows_of section) ≤ most_histories
   pub err : List ℕ
   pub how : EndsListing axioms section err ends
   pub given : Given

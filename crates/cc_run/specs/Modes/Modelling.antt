@@ -4,7 +4,7 @@ use Rattle.cc_defs.specs.declared.log.EndWord.{EndWord}
 use Rattle.cc_defs.specs.declared.refusal.Fault.TheVariants as faults
 use Rattle.cc_defs.specs.declared.refusal.LimitAt.TheVariants as limits
 use Rattle.cc_defs.specs.declared.refusal.Refusal.{Refusal}
-use Rattle.cc_defs.specs.Limits.{limit_number, most_cnf_variables}
+use Rattle.cc_defs.specs.Limits.{limit_number, most_cnf_variables, most_histories}
 use Rattle.cc_defs.specs.LogVersions.{counts_in, log_in}
 use Rattle.cc_defs.specs.Refusals.{past, past_at}
 use Rattle.cc_defs.specs.Runs.{Section, TellsRows, rows_of, section_events}
@@ -57,12 +57,14 @@ EndsModels cnf section err (Some status) =
     ((word : EndWord) × (section.word ≡ Some word) × (err ≡ []) × (status ≡ models_status (length (rows_of section)) word))
     ⊎ (IsNone section.word × TellsTooMany (cnf_axioms cnf) section × (err ≡ refusal_text (past limits.Histories) []) × (status ≡ statuses.Refused))
 
--- The first models of the CNF, in ascending order, each once, all of them where the listing is complete; and the log of its one section.
+-- The first models of the CNF, in ascending order, each once, at most as many as may be listed, all of them where the listing is
+-- complete; and the log of its one section.
 pub record Models (modelling : Modelling) (files : Files) (whole : Whole) : Type 0 where
   pub cnf : PlainCnf
   pub is : IsCnfIn files modelling.file cnf
   pub section : Section
   pub tells : TellsRows (IsModelOf cnf) (cnf_axioms cnf) modelling.count modelling.budget section
+  pub few : length (rows_of section) ≤ most_histories
   pub out : whole.given.out ≡ models_text section
   pub log : whole.given.log ≡ log_in modelling.form (counts_in (subject_over (cnf_axioms cnf))) (lines_of (section_events false 0 section))
   pub begun : whole.begun ≡ is_some modelling.log

@@ -17,6 +17,7 @@ ghost use Rattle.cc_words.specs.declared.asked.Asked.TheVariants as requests;
 use crate::wide::{PreparedWide, prepare_wide};
 use bumpalo::Bump;
 use cc_arena::Terms;
+use cc_check::SilentVerdict;
 use cc_defs::{Fault, LimitAt, Refusal};
 use cc_describe::DescribedWide;
 use cc_general::check_general;
@@ -48,7 +49,9 @@ fn check_log<D: Desk>(
         &prepared.query,
         bytes,
     ) {
-        Ok(verdict) => tell_silent_verdict(alloc, desk, "histories", verdict),
+        Ok(verdict) => {
+            tell_silent_verdict(alloc, desk, "histories", SilentVerdict::from(verdict))
+        }
         Err(Fault::Refused(refusal)) => refuse(alloc, desk, &refusal, ""),
         Err(Fault::OutOfMemory) => Err(Stop::OutOfMemory),
     }

@@ -17,6 +17,7 @@ ghost use Rattle.cc_words.specs.declared.asked.Asked.TheVariants as requests;
 use crate::unclaimed::prepare_unclaimed;
 use bumpalo::Bump;
 use cc_arena::Terms;
+use cc_check::SilentVerdict;
 use cc_defs::{Fault, LimitAt, Refusal};
 use cc_describe::Described;
 use cc_list::Prepared;
@@ -50,7 +51,9 @@ fn check_log<D: Desk>(
         &prepared.query,
         bytes,
     ) {
-        Ok(verdict) => tell_silent_verdict(alloc, desk, "impossible", verdict),
+        Ok(verdict) => {
+            tell_silent_verdict(alloc, desk, "impossible", SilentVerdict::from(verdict))
+        }
         Err(Fault::Refused(refusal)) => refuse(alloc, desk, &refusal, ""),
         Err(Fault::OutOfMemory) => Err(Stop::OutOfMemory),
     }

@@ -1,4 +1,5 @@
 use Rattle.std.proofs.Common.{[], refl}
+use Rattle.cc_sure.specs.SureLogs.{as_silent}
 use Rattle.cc_list.proofs.Outcomes.{prints_lacking, prints_refusal}
 use Rattle.cc_run.proofs.SurelyChecked.{prints_sure_verdict, refuses_section}
 use Rattle.cc_run.proofs.modes.sure_check.check_log.Goals as goal
@@ -7,9 +8,9 @@ use Rattle.cc_run.specs.Modes.CheckingSure.{sure_checking_promise}
 pub returns-in-Ok : goal.returns-in-Ok
 returns-in-Ok g c = λ checking d q of named.
     let said = c.in-Ok.ensures in
-    prints_sure_verdict checking d q c.args.bytes.now c.in-Ok.verdict _ _ c.tell_silent_verdict.result named c.requires.few
+    prints_sure_verdict checking d q c.args.bytes.now (as_silent c.in-Ok.verdict) _ _ c.tell_silent_verdict.result named c.requires.few
     (said.verdict d q of.laws_are of.query_is) (said.within d q of.laws_are of.query_is) (said.refutes d q of.laws_are of.query_is)
-    c.tell_silent_verdict.ensures.told c.tell_silent_verdict.ensures.status
+    (rw c.from.ensures at c.tell_silent_verdict.ensures.told) (rw c.from.ensures at c.tell_silent_verdict.ensures.status)
 
 pub returns-in-Err-Refused : goal.returns-in-Err-Refused
 returns-in-Err-Refused g c = λ checking d q of named.
