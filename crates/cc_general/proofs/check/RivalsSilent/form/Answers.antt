@@ -1,9 +1,10 @@
-use Rattle.std.proofs.Common.{◌≤◌, subst, sym}
+use Rattle.std.proofs.Common.{◌≡◌, ◌≤◌, IfErr, List, None, OnOk, subst, sym, ℕ}
 use Rattle.cc_defs.specs.Refusals.{IsRefusedBy}
 use Rattle.cc_general.specs.RivalParts.{AreRivalsOf, RivalsView}
 use Rattle.cc_general.proofs.Checking.{first_refused, then_refused, then_within}
 use Rattle.cc_general.proofs.Walking.{errs_with}
 use Rattle.cc_general.proofs.check.RivalsSilent.form.Goals as goal
+use Rattle.cc_rivals.specs.Wides.{rivals_refusal}
 
 pub candidates-requires-clause-query : goal.candidates-requires-clause-query
 candidates-requires-clause-query c =
@@ -19,9 +20,11 @@ returns-in_err-listed-clause-refused c = λ of is.
 pub returns-clause-within : goal.returns-clause-within
 returns-clause-within c = λ of is.
     let at = subst (λ (s : RivalsView). AreRivalsOf s of.0 of.1) (sym c.self.view_is) is in
-    then_within of.0 of.1 c.args.key.now (c.in_ok-listed.ensures.within of.0 of.1 at.laws at.query) c.rivals.result (c.rivals.ensures.within of.0 at.laws)
+    then_within of.0 of.1 c.args.key.now (c.in_ok-listed.ensures.within of.0 of.1 at.laws at.query) c.rivals.result
+    (subst (λ (row : List ℕ). OnOk c.rivals.result (rivals_refusal of.0 c.args.key.now.horizon row ≡ None)) c.items.ensures (c.rivals.ensures.within of.0 at.laws))
 
 pub returns-clause-refused : goal.returns-clause-refused
 returns-clause-refused c = λ of is.
     let at = subst (λ (s : RivalsView). AreRivalsOf s of.0 of.1) (sym c.self.view_is) is in
-    then_refused of.0 of.1 c.args.key.now (c.in_ok-listed.ensures.within of.0 of.1 at.laws at.query) c.rivals.result (c.rivals.ensures.refused of.0 at.laws)
+    then_refused of.0 of.1 c.args.key.now (c.in_ok-listed.ensures.within of.0 of.1 at.laws at.query) c.rivals.result
+    (subst (λ (row : List ℕ). IfErr c.rivals.result (IsRefusedBy (rivals_refusal of.0 c.args.key.now.horizon row))) c.items.ensures (c.rivals.ensures.refused of.0 at.laws))
