@@ -157,7 +157,11 @@ fn err_of_spaces(alloc: Global, count: usize) -> Result<Vec<u8>, OutOfMemory> {
     let status = run(alloc, &words, &mut desk);
     let err = Vec::from_slice(alloc, desk.written(To::Err))?;
     drop(desk);
-    if status == Status::Refused { Ok(err) } else { Ok(Vec::new(alloc)) }
+    if status == Status::Refused {
+        Ok(err)
+    } else {
+        Ok(Vec::new(alloc))
+    }
 }
 
 // A file may have 1,048,576 bytes, and not one more.
@@ -175,7 +179,11 @@ fn files_have_a_limit(rt: HostRuntime) -> Result<(), Fail> {
 #[test]
 fn a_log_is_no_file_that_was_read(rt: HostRuntime) -> Result<(), Fail> {
     let alloc = rt.alloc();
-    std::fs::write(&rt, "g.cc", ":- include 'f.cc'. :- query label :: 1; maxstep :: 0.")?;
+    std::fs::write(
+        &rt,
+        "g.cc",
+        ":- include 'f.cc'. :- query label :: 1; maxstep :: 0.",
+    )?;
     std::fs::write(&rt, "f.cc", ":- constants p :: simpleFluent.")?;
     std::fs::hard_link(&rt, "f.cc", "other")?;
     for name in ["f.cc", "./f.cc", "other", "g.cc"] {

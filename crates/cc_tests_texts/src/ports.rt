@@ -2,7 +2,9 @@
 ghost use Rattle.std.specs.Prelude.{◌<◌, length};
 
 use cc_defs::{Bytes, Name, Nums};
-use cc_ports::{Desk, Failed, Files, MemoryDesk, ReadStop, RealDesk, StillDesk, To, give_all, read_all};
+use cc_ports::{
+    Desk, Failed, Files, MemoryDesk, ReadStop, RealDesk, StillDesk, To, give_all, read_all,
+};
 use std::alloc::{AllocError, Global};
 use std::test::Fail;
 
