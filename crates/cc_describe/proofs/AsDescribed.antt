@@ -258,13 +258,13 @@ no_fault read fault is = absurd cc
 pub same_fault : {A B : Type 0} (stop fault : DescribeStop) → IsErrOf {T = A} (Err stop) fault → IsErrOf {T = B} (Err stop) fault
 same_fault stop fault is = let same : stop ≡ fault = cc in ap Err same
 
-opens_bare : {A B : Type 0} (which : Heads) (files : Files) (name : List ℕ) (stop : DescribeStop) (names : List (List ℕ)) → OpensFor which files name {T = A} (Err stop) names
+opens_bare : (A B : Type 0) (which : Heads) (files : Files) (name : List ℕ) (stop : DescribeStop) (names : List (List ℕ)) → OpensFor which files name {T = A} (Err stop) names
     → OpensFor which files name {T = B} (Err stop) names
-opens_bare which files name (stops.Refused refusal file) names opens = opens
-opens_bare which files name stops.ReadFault names opens = opens
-opens_bare which files name stops.OutOfMemory names opens = opens
+opens_bare A B which files name (stops.Refused refusal file) names opens = opens
+opens_bare A B which files name stops.ReadFault names opens = opens
+opens_bare A B which files name stops.OutOfMemory names opens = opens
 
-pub opened_bare : {A B : Type 0} (which : Heads) (told : Option Contents) (name : List ℕ) (stop : DescribeStop) (names : List (List ℕ))
+pub opened_bare : (A B : Type 0) (which : Heads) (told : Option Contents) (name : List ℕ) (stop : DescribeStop) (names : List (List ℕ))
     → IfSome told (λ contents. OpensFor which contents.files name {T = A} (Err stop) names) → IfSome told (λ contents. OpensFor which contents.files name {T = B} (Err stop) names)
-opened_bare which None name stop names opens = tt
-opened_bare which (Some contents) name stop names opens = opens_bare which contents.files name stop names opens
+opened_bare A B which None name stop names opens = tt
+opened_bare A B which (Some contents) name stop names opens = opens_bare A B which contents.files name stop names opens
