@@ -1,4 +1,6 @@
 use Rattle.std.proofs.Common.{subst, sym, Err}
+use Rattle.cc_describe.specs.declared.description.Described.{Described}
+use Rattle.cc_describe.specs.declared.description.DescribedWide.{DescribedWide}
 use Rattle.cc_describe.specs.declared.heads.Heads.TheVariants as heads
 use Rattle.cc_describe.specs.Describing.{AsksFormulas, Describes, HasForms}
 use Rattle.cc_describe.proofs.AsDescribed.{describes_bare, no_fault, nothing_described, opened_bare, same_fault, says_bare}
@@ -35,7 +37,7 @@ returns-in-Err g c =
       failed = λ is. read.failed (same_fault _ _ is);
       after = read.after;
       begun = read.begun;
-      calls = (read.calls.0, read.calls.1, read.calls.2, opened_bare _ _ heads.Definite told c.args.name.now c.in-Err.stop _ read.calls.3, read.calls.4);
+      calls = (read.calls.0, read.calls.1, read.calls.2, opened_bare DescribedWide Described heads.Definite told c.args.name.now c.in-Err.stop _ read.calls.3, read.calls.4);
       calm = λ other. read.calm (λ fault. other (same_fault _ _ fault));
       reads_count = read.reads_count;
       writes_count = read.writes_count;
