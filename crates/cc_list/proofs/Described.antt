@@ -104,18 +104,18 @@ named_refused files by places described refusal file said read name (inr (q, nam
 abbrev pub stopped : {T : Type 0} → DescribeStop → Result T DescribeStop
 stopped stop = Err stop
 
-pub first_files : {T : Type 0} (which : Heads) (files : Files) (name : Text) (stop : DescribeStop) (names : List Text) → OpensFor which files name (stopped {T = T} stop) names →
+pub first_files : (T : Type 0) (which : Heads) (files : Files) (name : Text) (stop : DescribeStop) (names : List Text) → OpensFor which files name (stopped {T = T} stop) names →
     (all : List Text) × AreToOpen which files name all × AreFirstNames names all
-first_files which files name (describe_stops.Refused refusal file) names are = (names, are, first_all names)
-first_files which files name describe_stops.ReadFault names are = are
-first_files which files name describe_stops.OutOfMemory names are = are
+first_files T which files name (describe_stops.Refused refusal file) names are = (names, are, first_all names)
+first_files T which files name describe_stops.ReadFault names are = are
+first_files T which files name describe_stops.OutOfMemory names are = are
 
 -- the files of a description were opened, or the first of them
 pub first_named : (o : Option Contents) (which : Heads) (name : Text) (stop : DescribeStop) (names : List Text) → IfSome o (λ c. OpensFor which c.files name (stopped {T = Described} stop) names) →
     (all : List Text) × AreFirstNames names all × IfSome o (λ c. AreToOpen which c.files name all)
 first_named None which name stop names opens = (names, first_all names, tt)
 first_named (Some c) which name stop names opens =
-    let there = first_files which c.files name stop names opens in
+    let there = first_files Described which c.files name stop names opens in
     (there.0, there.2, there.1)
 
 -- all of them were, and none is to be opened behind them

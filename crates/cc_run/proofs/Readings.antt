@@ -268,7 +268,7 @@ pub record AreFirstOf (o : Option Contents) (request : Request) (names : List Te
 first_behind : (which : Heads) (files : Files) (name log : Text) (stop : DescribeStop) (names : List Text) → OpensFor which files name (stopped {T = DescribedWide} stop) names →
     (all : List Text) × ((named : List Text) × AreToOpen which files name named × (all ≡ named ++ log ∷ [])) × AreFirstNames names all
 first_behind which files name log stop names are =
-    let there = first_files which files name stop names are in
+    let there = first_files DescribedWide which files name stop names are in
     (there.0 ++ log ∷ [], (there.0, there.1, refl), first_longer names there.0 (log ∷ []) there.2)
 
 first_in : (files : Files) (request : Request) (stop : DescribeStop) (names : List Text) → AsksDescription request → OpensDescription request files (stopped {T = DescribedWide} stop) names →
@@ -276,14 +276,14 @@ first_in : (files : Files) (request : Request) (stop : DescribeStop) (names : Li
 first_in files (ToList listing) stop names asks are = absurd asks
 first_in files (ToCheck checking) stop names asks are = first_behind heads.Definite files checking.file checking.log stop names are
 first_in files (ToMake size budget) stop names asks are = (names, are, first_all names)
-first_in files (ToExplain explaining) stop names asks are = first_files heads.Definite files explaining.file stop names are
+first_in files (ToExplain explaining) stop names asks are = first_files DescribedWide heads.Definite files explaining.file stop names are
 first_in files (ToConvert converting) stop names asks are = first_behind heads.Definite files converting.file converting.log stop names are
-first_in files (ToExport exporting) stop names asks are = first_files heads.Definite files exporting.file stop names are
+first_in files (ToExport exporting) stop names asks are = first_files DescribedWide heads.Definite files exporting.file stop names are
 first_in files (ToModel modelling) stop names asks are = absurd asks
 first_in files (ToCheckModels checking) stop names asks are = absurd asks
-first_in files (ToBeSure surely) stop names asks are = first_files heads.Definite files surely.file stop names are
+first_in files (ToBeSure surely) stop names asks are = first_files DescribedWide heads.Definite files surely.file stop names are
 first_in files (ToCheckSure checking) stop names asks are = first_behind heads.Definite files checking.file checking.log stop names are
-first_in files (ToListGenerally generally) stop names asks are = first_files heads.Any files generally.file stop names are
+first_in files (ToListGenerally generally) stop names asks are = first_files DescribedWide heads.Any files generally.file stop names are
 first_in files (ToCheckGeneral checking) stop names asks are = first_behind heads.Any files checking.file checking.log stop names are
 
 pub first_of : (o : Option Contents) (request : Request) (stop : DescribeStop) (names : List Text) → AsksDescription request → IfSome o (λ c. OpensDescription request c.files (stopped {T = DescribedWide} stop) names) →
