@@ -3,7 +3,8 @@ ghost use Rattle.std.specs.Prelude.{◌<◌, length};
 
 use cc_defs::{Bytes, Name, Nums};
 use cc_ports::{
-    Desk, Failed, Files, MemoryDesk, ReadStop, RealDesk, StillDesk, To, give_all, read_all,
+    Desk, DroppingDesk, Failed, Files, MemoryDesk, ReadStop, RealDesk, StandardStreams, StillDesk,
+    To, give_all, read_all,
 };
 use std::alloc::{AllocError, Global};
 use std::test::Fail;
@@ -124,4 +125,25 @@ fn reaches_the_machine(rt: HostRuntime) {
     assert!(rt; failed);
     assert!(rt; given == Ok(()));
     assert!(rt; dropped == Ok(()));
+}
+
+// What is given to Log before a log was begun is dropped, and what comes after is kept.
+#[test]
+fn drops_lines_of_no_log(rt: HostRuntime) -> Result<(), Fail> {
+    let kept = desk(rt.alloc(), &[], [9, 9, 9])?;
+    assert!(rt; !kept.drops_log());
+    let mut desk = DroppingDesk::of(kept);
+    assert!(rt; desk.drops_log());
+    assert!(rt; give_all(&mut desk, To::Log, b"before") == Ok(()));
+    assert!(rt; has_written(desk.desk(), To::Log, b""));
+    assert!(rt; desk.create_file("log").is_ok());
+    assert!(rt; !desk.drops_log());
+    assert!(rt; give_all(&mut desk, To::Log, b"after") == Ok(()));
+    assert!(rt; has_written(desk.desk(), To::Log, b"after"));
+    Ok(())
+}
+
+#[test]
+fn holds_the_standard_streams(rt: HostRuntime) {
+    assert!(rt; StandardStreams::hold(&rt).is_ok());
 }
