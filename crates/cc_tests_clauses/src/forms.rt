@@ -4,7 +4,7 @@ ghost use Rattle.std.specs.Prelude.{◌≡◌, ◌≤◌, ◌∷◌, [], length}
 ghost use Rattle.cc_defs.specs.declared.node.Node.TheVariants as nodes;
 
 use crate::template::is_same;
-use cc_defs::{Fault, Node};
+use cc_defs::{Fault, Lit, Node, Refusal};
 use cc_dimacs::{cnf_form, export_text, read_cnf};
 use cc_form::{Builder, Draft, Form};
 use std::alloc::Global;
@@ -91,6 +91,45 @@ fn clauses_are_exported(rt: HostRuntime) -> Result<(), Fail> {
             Ok(form) => assert!(rt; export_text(rt.alloc(), &form, 7)?.text() == EXPORTED),
             Err(_) => assert!(rt; false),
         }
+    }
+    Ok(())
+}
+
+// The third line has a literal past the last variable.
+const WRONG: &[u8] = b"c two variables\np cnf 2 2\n1 3 0\n";
+
+// The refusal of a text; none where it has no such fault.
+fn refused(alloc: Global, bytes: &[u8]) -> Option<Refusal>
+    requires { length bytes.now ≤ 1000 }
+{
+    match read_cnf(alloc, bytes) {
+        Err(Fault::Refused(refusal)) => Some(refusal),
+        Err(Fault::OutOfMemory) | Ok(_) => None,
+    }
+}
+
+// Whether a text of two variables has these two clauses.
+fn reads(alloc: Global, bytes: &[u8]) -> Result<bool, Fault>
+    requires { length bytes.now ≤ 1000 }
+{
+    let cnf = read_cnf(alloc, bytes)?;
+    if cnf.clauses.count() != 2 {
+        return Ok(false);
+    }
+    let first = [Lit::positive(1), Lit::positive(2)];
+    let second = [Lit::negative(2), Lit::positive(1), Lit::negative(1)];
+    Ok(
+        cnf.variables == 2
+            && cnf.clauses.clause(0) == first.as_slice()
+            && cnf.clauses.clause(1) == second.as_slice(),
+    )
+}
+
+#[test]
+fn cnf_texts_are_read(rt: HostRuntime) -> Result<(), Fail> {
+    if CNF.len() <= 1000 && WRONG.len() <= 1000 {
+        assert!(rt; reads(rt.alloc(), CNF)?);
+        assert!(rt; refused(rt.alloc(), WRONG) == Some(Refusal::at(19, 0, 3)));
     }
     Ok(())
 }
