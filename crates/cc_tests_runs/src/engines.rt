@@ -1,0 +1,270 @@
+//! The engines of sure and general mode and the judges of their logs, over descriptions of two fluents, with memory enough.
+ghost use Rattle.std.specs.Prelude.{◌≡◌, ◌≤◌, IfOk, length, true};
+ghost use Rattle.cc_describe.specs.Describing.{AsksFormulas, HasForms, HasWideForms};
+ghost use Rattle.cc_rivals.specs.Wides.{AreWideLawsFor};
+ghost use Rattle.cc_sorts.specs.Tables.{IsSignatureFor};
+ghost use Rattle.cc_sure.specs.Sures.{HasMore};
+
+use crate::runs::{TWO_FLUENTS, described_text, one_file};
+use bumpalo::Bump;
+use cc_arena::Terms;
+use cc_defs::{Fault, Node, Nums};
+use cc_describe::{DescribeStop, Described, DescribedWide, Heads, describe_with};
+use cc_general::{General, GeneralEvent, GeneralVerdict, check_general};
+use cc_ground::laws::declared_have_own_values;
+use cc_list::{prepare, query_asked};
+use cc_ports::MemoryDesk;
+use cc_sure::{Answer, Sure, SureEvent, SureVerdict, check_sure};
+use cc_wide::WideGround;
+use cc_wide_ground::ground_wide;
+use std::alloc::Global;
+use std::test::Fail;
+
+// Whether the next event is this example.
+fn is_example(sure: &mut Sure<'_>, number: u32, row: &[u32]) -> Result<bool, Fault>
+    requires { HasMore sure.old }
+    ensures { IfOk result (λ is. is ≡ true → HasMore sure.new) }
+{
+    match sure.next()? {
+        SureEvent::Example {
+            number: told,
+            row: found,
+        } => Ok(told == number && found.items() == row),
+        _ => Ok(false),
+    }
+}
+
+// Whether two answers say that some histories have a value, the first of them these examples.
+fn are_possible(answers: &[Answer], first: u32, second: u32) -> bool {
+    match answers {
+        [
+            Answer::Possible { example: one },
+            Answer::Possible { example: other },
+        ] => { *one == first && *other == second }
+        _ => false,
+    }
+}
+
+// Whether the next event is the answers for a position of two values, each of which some histories have.
+fn is_answered(sure: &mut Sure<'_>, wanted: u64, first: u32, second: u32) -> Result<bool, Fault>
+    requires { HasMore sure.old }
+    ensures { IfOk result (λ is. is ≡ true → HasMore sure.new) }
+{
+    match sure.next()? {
+        SureEvent::Answers { position, answers } => {
+            Ok(position == wanted && are_possible(answers.items(), first, second))
+        }
+        _ => Ok(false),
+    }
+}
+
+// Two fluents that are free: the least history is the first example, and the other value of the first fluent has the next one.
+fn begins_right(mut sure: Sure<'_>) -> Result<bool, Fault>
+    requires { HasMore sure }
+{
+    Ok(
+        is_example(&mut sure, 1, &[0, 0])?
+            && is_example(&mut sure, 2, &[1, 0])?
+            && is_answered(&mut sure, 0, 1, 2)?
+            && is_example(&mut sure, 3, &[0, 1])?
+            && is_answered(&mut sure, 1, 1, 3)?,
+    )
+}
+
+fn sure_begins_right(alloc: Global, described: &Described) -> Result<bool, Fault>
+    requires signature { IsSignatureFor described.now.table described.now.sig }
+    requires forms { HasForms described.now }
+    requires formulas { AsksFormulas described.now }
+{
+    let arena = Bump::new(alloc);
+    let terms = Terms::new(&arena);
+    let prepared = prepare(alloc, described, None, None, &terms)?;
+    match prepared.query.claim {
+        Some(_) => Ok(false),
+        None => begins_right(Sure::new(
+            alloc,
+            &described.sig,
+            &prepared.laws,
+            &prepared.query,
+            200_000,
+        )),
+    }
+}
+
+#[test]
+fn sure_mode_gives_examples_and_answers(rt: HostRuntime) -> Result<(), Fail> {
+    let alloc = rt.alloc();
+    let described = described_text(alloc, TWO_FLUENTS)?;
+    assert!(rt; sure_begins_right(alloc, &described)?);
+    Ok(())
+}
+
+fn sure_verdict(alloc: Global, described: &Described, log: &[u8]) -> Result<SureVerdict, Fault>
+    requires signature { IsSignatureFor described.now.table described.now.sig }
+    requires forms { HasForms described.now }
+    requires formulas { AsksFormulas described.now }
+    requires few { length log.now ≤ 1000 }
+{
+    let arena = Bump::new(alloc);
+    let terms = Terms::new(&arena);
+    let prepared = prepare(alloc, described, None, None, &terms)?;
+    check_sure(alloc, &described.sig, &prepared.laws, &prepared.query, log)
+}
+
+const SURE_LOG: &[u8] = b"ccalc sure 1\n";
+
+#[test]
+fn sure_logs_may_have_no_section(rt: HostRuntime) -> Result<(), Fail> {
+    let alloc = rt.alloc();
+    let described = described_text(alloc, TWO_FLUENTS)?;
+    if SURE_LOG.len() <= 1000 {
+        let verdict = sure_verdict(alloc, &described, SURE_LOG)?;
+        assert!(rt; verdict == SureVerdict::Accepted { impossible: 0 });
+    }
+    Ok(())
+}
+
+const EITHER: &str = ":- constants p, q :: simpleFluent. caused p ++ q. :- query maxstep :: 0.";
+
+// The description of a text, whose heads may be of any form.
+fn described_wide(alloc: Global, text: &str) -> Result<DescribedWide, DescribeStop>
+    ensures signature { IfOk result (λ said. IsSignatureFor said.described.table said.described.sig) }
+    ensures forms { IfOk result HasWideForms }
+    ensures formulas { IfOk result (λ said. AsksFormulas said.described) }
+{
+    let Ok(files) = one_file(alloc, text) else {
+        return Err(DescribeStop::OutOfMemory);
+    };
+    let fails = Nums::of(Vec::new(alloc));
+    let Ok(mut desk) = MemoryDesk::new(alloc, files, fails, 4096, [0, 0, 0]) else {
+        return Err(DescribeStop::OutOfMemory);
+    };
+    let answer = describe_with(alloc, &mut desk, "f.cc", Heads::Any);
+    drop(desk);
+    answer
+}
+
+// The ground laws of a description, as candidates and rivals ask for them.
+fn wide_laws_of<'a>(
+    alloc: Global,
+    said: &DescribedWide,
+    terms: &Terms<'a>,
+) -> Result<WideGround<'a>, Fault>
+    requires signature { IsSignatureFor said.now.described.table said.now.described.sig }
+    requires forms { HasWideForms said.now }
+    ensures { IfOk result (λ laws. AreWideLawsFor said.now.described.sig laws) }
+{
+    declared_have_own_values();
+    ground_wide(
+        alloc,
+        &said.described.table,
+        &said.described.sig,
+        &said.wide,
+        terms,
+    )
+}
+
+// Whether a term is that one of two constants has the value 1.
+fn is_either(term: &[Node]) -> bool {
+    match term {
+        [
+            Node::Atom {
+                constant: 0,
+                value: 1,
+            },
+            Node::Atom {
+                constant: 1,
+                value: 1,
+            },
+            Node::Any(2),
+        ] => true,
+        _ => false,
+    }
+}
+
+fn is_ground(alloc: Global, said: &DescribedWide) -> Result<bool, Fault>
+    requires signature { IsSignatureFor said.now.described.table said.now.described.sig }
+    requires forms { HasWideForms said.now }
+{
+    let arena = Bump::new(alloc);
+    let terms = Terms::new(&arena);
+    let laws = wide_laws_of(alloc, said, &terms)?;
+    match laws.laws() {
+        [law] => Ok(is_either(law.head) && law.base == 0),
+        _ => Ok(false),
+    }
+}
+
+#[test]
+fn heads_of_any_form_are_ground(rt: HostRuntime) -> Result<(), Fail> {
+    let alloc = rt.alloc();
+    let said = described_wide(alloc, EITHER)?;
+    assert!(rt; is_ground(alloc, &said)?);
+    Ok(())
+}
+
+// Whether this is the first history of horizon 0.
+fn is_first(event: &GeneralEvent, wanted: &[u32]) -> bool {
+    match event {
+        GeneralEvent::History {
+            horizon,
+            number,
+            row,
+            lines: _,
+        } => *horizon == 0 && *number == 1 && row.items() == wanted,
+        _ => false,
+    }
+}
+
+fn general_begins_with(alloc: Global, said: &DescribedWide, row: &[u32]) -> Result<bool, Fault>
+    requires signature { IsSignatureFor said.now.described.table said.now.described.sig }
+    requires forms { HasWideForms said.now }
+    requires formulas { AsksFormulas said.now.described }
+{
+    let arena = Bump::new(alloc);
+    let terms = Terms::new(&arena);
+    let laws = wide_laws_of(alloc, said, &terms)?;
+    let query = query_asked(alloc, &said.described, None, &terms)?;
+    if let Some(_) = query.claim {
+        return Ok(false);
+    }
+    let mut general = General::new(alloc, &said.described.sig, &laws, &query, None, 200_000);
+    Ok(is_first(&general.next()?, row))
+}
+
+// Two free fluents, and a law that one of them holds.
+#[test]
+fn general_mode_gives_the_first_history(rt: HostRuntime) -> Result<(), Fail> {
+    let alloc = rt.alloc();
+    let free = described_wide(alloc, TWO_FLUENTS)?;
+    assert!(rt; general_begins_with(alloc, &free, &[0, 0])?);
+    let either = described_wide(alloc, EITHER)?;
+    assert!(rt; general_begins_with(alloc, &either, &[0, 1])?);
+    Ok(())
+}
+
+fn general_verdict(alloc: Global, said: &DescribedWide, log: &[u8]) -> Result<GeneralVerdict, Fault>
+    requires signature { IsSignatureFor said.now.described.table said.now.described.sig }
+    requires forms { HasWideForms said.now }
+    requires formulas { AsksFormulas said.now.described }
+    requires few { length log.now ≤ 1000 }
+{
+    let arena = Bump::new(alloc);
+    let terms = Terms::new(&arena);
+    let laws = wide_laws_of(alloc, said, &terms)?;
+    let query = query_asked(alloc, &said.described, None, &terms)?;
+    check_general(alloc, &said.described.sig, &laws, &query, log)
+}
+
+const GENERAL_LOG: &[u8] = b"ccalc general 1\n";
+
+#[test]
+fn general_logs_may_have_no_section(rt: HostRuntime) -> Result<(), Fail> {
+    let alloc = rt.alloc();
+    let said = described_wide(alloc, TWO_FLUENTS)?;
+    if GENERAL_LOG.len() <= 1000 {
+        let verdict = general_verdict(alloc, &said, GENERAL_LOG)?;
+        assert!(rt; verdict == GeneralVerdict::Accepted { histories: 0 });
+    }
+    Ok(())
+}
