@@ -7,7 +7,7 @@ checks/families.py --check [--program PATH] [FAMILY ..]
 The first form prints the description of a family at a size; checks/speed measures these. The second asks the program about small
 sizes of each family (all states, all shortest plans, a claim that fails when a guard is left out) and compares the numbers with
 those of a search over states that is written here a second time, without laws: breadth first for plans, by counting for the rest.
-PATH is a built program; without it crates/ccalc/out/ccalc, which ./ccalc makes. Ends with 1 where one number differs.
+PATH is a built program; without it the one that ./ccalc runs. Ends with 1 where one number differs.
 """
 import itertools
 import math
@@ -19,7 +19,6 @@ import tempfile
 from collections import namedtuple
 
 HOME = pathlib.Path(__file__).resolve().parent.parent
-BUILT = HOME / "crates" / "ccalc" / "out" / "ccalc"
 
 # A description: its laws, the least and the greatest horizon of its query, and the further items of the query, each with its `at`.
 Description = namedtuple("Description", "laws lo hi items")
@@ -575,13 +574,20 @@ def check(program, names):
     return 1 if wrong else 0
 
 
+def built():
+    """The program that ./ccalc runs, as its --version says."""
+    said = subprocess.run([HOME / "ccalc", "--version"], stdin=subprocess.DEVNULL, capture_output=True, text=True)
+    if said.returncode:
+        sys.exit(said.stderr.strip())
+    return pathlib.Path(said.stdout.splitlines()[-1])
+
+
 def main(words):
-    program = BUILT
     if words[:1] == ["--check"]:
-        words = words[1:]
+        words, program = words[1:], None
         if words[:1] == ["--program"]:
             program, words = pathlib.Path(words[1]).resolve(), words[2:]
-        return check(program, words or FAMILIES)
+        return check(program or built(), words or FAMILIES)
     if len(words) != 2:
         sys.exit("usage: checks/families.py FAMILY SIZE, or checks/families.py --check [--program PATH] [FAMILY ..]")
     sys.stdout.write(text_of(FAMILIES[words[0]].make(int(words[1]))))

@@ -1,4 +1,5 @@
-# Completion of ccalc for zsh, behind compinit: source tools/completion.zsh
+#compdef ccalc
+# Completion of ccalc for zsh, after compinit: source tools/completion.zsh; or put it as _ccalc into a folder of $fpath.
 
 _ccalc_labels() { # the labels of the queries in the files among the words
     local -a labels
@@ -22,4 +23,8 @@ _ccalc() {
         '*:description:_files -g "*.(cc|cnf)"'
 }
 
-compdef _ccalc ccalc ./ccalc
+if [ "$funcstack[1]" = _ccalc ]; then
+    _ccalc "$@" # where zsh has loaded this file as a function
+else
+    compdef _ccalc ccalc ./ccalc
+fi
