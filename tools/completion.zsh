@@ -1,30 +1,53 @@
-#compdef ccalc
-# Completion of ccalc for zsh, after compinit: source tools/completion.zsh; or put it as _ccalc into a folder of $fpath.
+# Completion of ccalc for zsh, after compinit: source tools/completion.zsh
+# Labels come from tools/labels beside this file, with those of included files; CCALC_LABELS names another place of it.
 
-_ccalc_labels() { # the labels of the queries in the files among the words
+_ccalc_labels_tool=${CCALC_LABELS:-${${(%):-%x}:A:h}/labels}
+
+_ccalc_labels() { # the labels of the description among the words
+    local word
     local -a labels
-    labels=(${(f)"$(grep -ho 'label *:: *[A-Za-z0-9_]*' ${(M)words:#*.cc} 2>/dev/null | sed 's/.*:: *//')"})
+    for word in ${(Q)${(M)words:#*.(cc|ccalc)}}; do
+        labels+=(${(f)"$($_ccalc_labels_tool -- $word 2>/dev/null)"})
+    done
     compadd -a labels
 }
 
 _ccalc() {
+    local mode=list name at=${words[(I)--mode]}
+    local -A all
+    local -a names options
+    (( at )) && mode=$words[at+1]
+    all=(
+        --query '[the query with this label]:label:_ccalc_labels'
+        --count '[at most so many histories or models]:number:'
+        --budget '[at most so many derived clauses in a section]:number:'
+        --after '[only the histories after this key]:key:'
+        --log '[the file of the log]:file:_files'
+        --form '[the version of the log that is written]:version:(1 2)'
+        --to '[the file of the log in its other version]:file:_files'
+        --key '[the history that is explained]:key:'
+        --horizon '[the horizon whose clauses are printed]:horizon:'
+        --size '[how many locks a made description has]:number:'
+    )
+    case $mode in
+        list) names=(--query --count --budget --after --log --form) ;;
+        check) names=(--query --after --log) ;;
+        make) names=(--size --budget) ;;
+        convert) names=(--query --after --log --to) ;;
+        why) names=(--key) ;;
+        export) names=(--query --horizon) ;;
+        models) names=(--count --budget --log --form) ;;
+        modelscheck) names=(--log) ;;
+        sure) names=(--query --budget --log) ;;
+        general) names=(--query --count --budget --log) ;;
+        surecheck|generalcheck) names=(--query --log) ;;
+        *) names=(${(k)all}) ;;
+    esac
+    for name in $names; do options+=("$name$all[$name]"); done
     _arguments \
         '--mode[the mode]:mode:(list check make convert why export models modelscheck sure surecheck general generalcheck)' \
-        '--query[the query with this label]:label:_ccalc_labels' \
-        '--count[at most so many histories or models]:number:' \
-        '--budget[at most so many derived clauses in a section]:number:' \
-        '--after[only the histories behind this key]:key:' \
-        '--log[the file of the log]:file:_files' \
-        '--form[the version of the log that is written]:version:(1 2)' \
-        '--to[the file of the log in its other version]:file:_files' \
-        '--key[the history that is explained]:key:' \
-        '--horizon[the horizon whose clauses are printed]:horizon:' \
-        '--size[how many locks a made description has]:number:' \
-        '*:description:_files -g "*.(cc|cnf)"'
+        $options \
+        '*:description:_files -g "*.(cc|ccalc|cnf)"'
 }
 
-if [ "$funcstack[1]" = _ccalc ]; then
-    _ccalc "$@" # where zsh has loaded this file as a function
-else
-    compdef _ccalc ccalc ./ccalc
-fi
+compdef _ccalc ccalc ./ccalc
