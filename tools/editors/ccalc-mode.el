@@ -30,5 +30,8 @@
   (setq-local comment-start "% ")
   (setq-local font-lock-defaults '(ccalc-mode-keywords)))
 
+;;;###autoload
+(add-to-list 'auto-mode-alist '("\\.ccalc\\'" . ccalc-mode))
+
 (provide 'ccalc-mode)
 ;;; ccalc-mode.el ends here
