@@ -174,11 +174,14 @@ def names_in(text: str) -> list[str]:
 
 
 def add_options(parser: argparse.ArgumentParser) -> None:
-    parser.add_argument("listing", nargs="?", metavar="LISTING", help="a file with what ccalc printed; standard input where there is none")
-    parser.add_argument("--show", action="append", default=[], metavar="NAMES", help="show these constants alone: names, as `at,paid`, or with arguments, as `at(wolf)` or 'at(*)'")
-    parser.add_argument("--hide", action="append", default=[], metavar="NAMES", help="show all constants but these")
-    parser.add_argument("--changes", action="store_true", help="after the first state show only what changes; a Boolean that becomes false has a `-`")
-    parser.add_argument("--none", action="store_true", help="show attributes without a value, as `to(b)=none`, too")
+    add = parser.add_argument
+    add("listing", nargs="?", metavar="LISTING", help="a file with what ccalc printed; standard input where there is none")
+    names = "names, as `at,paid`, or with arguments, as `at(wolf)` or 'at(*)'"
+    add("--show", action="append", default=[], metavar="NAMES", help=f"show these constants alone: {names}")
+    add("--hide", action="append", default=[], metavar="NAMES", help="show all constants but these")
+    changed = "after the first state show only what changes, nothing where nothing does; a Boolean that becomes false has a `-`"
+    add("--changes", action="store_true", help=changed)
+    add("--none", action="store_true", help="show attributes without a value, as `to(b)=none`, too")
 
 
 def chosen_by(asked: argparse.Namespace) -> Chosen:

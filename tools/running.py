@@ -8,6 +8,7 @@ import resource
 import shutil
 import signal
 import subprocess
+import sys
 import threading
 import time
 from collections.abc import Sequence
@@ -50,11 +51,17 @@ def program_named(name: str | None) -> str:
 
 
 def ask_once(program: str) -> None:
-    """Runs words that are refused, so that a program which has to be built first is built, once and without a limit."""
-    ran = subprocess.run([program, "--mode", "check"], stdin=subprocess.DEVNULL, stdout=subprocess.DEVNULL, stderr=subprocess.PIPE, check=False)
-    if ran.returncode != 2:
-        said = ran.stderr.decode(errors="replace").strip().splitlines()
-        raise NoProgram(f"{program} does not run: {said[-1] if said else f'its exit code is {ran.returncode}'}")
+    """Runs words that are refused, so that a program which has to be built first is built, once and without a limit; what it says of
+    that goes on to standard error."""
+    with subprocess.Popen([program, "--mode", "check"], stdin=subprocess.DEVNULL, stdout=subprocess.DEVNULL, stderr=subprocess.PIPE) as process:
+        assert process.stderr is not None
+        last = ""
+        for line in process.stderr:
+            last = line.decode(errors="replace").strip() or last
+            if not line.startswith((b"ccalc: 1 Words", b"usage: ")):
+                print(last, file=sys.stderr, flush=True)
+    if process.returncode != 2:
+        raise NoProgram(f"{program} does not run: {last or f'its exit code is {process.returncode}'}")
 
 
 class Runner:
