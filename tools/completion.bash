@@ -1,7 +1,8 @@
 # Completion of ccalc for bash: source tools/completion.bash
-# Labels come from tools/labels beside this file, with those of included files; CCALC_LABELS names another place of it.
+# Labels come from tools/labels, with those of included files: beside this file, or ccalc-labels where the tools are installed.
 
-_ccalc_labels_tool=${CCALC_LABELS:-$(cd "$(dirname "${BASH_SOURCE[0]}")" && pwd)/labels}
+_ccalc_labels_tool=$(cd "$(dirname "${BASH_SOURCE[0]}")" && pwd)/labels
+[ -x "$_ccalc_labels_tool" ] || _ccalc_labels_tool=ccalc-labels
 
 _ccalc_options() { # the options that go with a mode
     case $1 in

@@ -1,7 +1,9 @@
-# Completion of ccalc for zsh, after compinit: source tools/completion.zsh
-# Labels come from tools/labels beside this file, with those of included files; CCALC_LABELS names another place of it.
+#compdef ccalc
+# Completion of ccalc for zsh, after compinit: source tools/completion.zsh; or put it as _ccalc into a folder of $fpath.
+# Labels come from tools/labels, with those of included files: beside this file, or ccalc-labels where the tools are installed.
 
-_ccalc_labels_tool=${CCALC_LABELS:-${${(%):-%x}:A:h}/labels}
+_ccalc_labels_tool=${${(%):-%x}:A:h}/labels
+[ -x $_ccalc_labels_tool ] || _ccalc_labels_tool=ccalc-labels
 
 _ccalc_labels() { # the labels of the description among the words
     local word
@@ -50,4 +52,8 @@ _ccalc() {
         '*:description:_files -g "*.(cc|ccalc|cnf)"'
 }
 
-compdef _ccalc ccalc ./ccalc
+if [ "$funcstack[1]" = _ccalc ]; then
+    _ccalc "$@" # where zsh has loaded this file as a function
+else
+    compdef _ccalc ccalc ./ccalc
+fi

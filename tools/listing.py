@@ -1,4 +1,4 @@
-"""Reads what `ccalc` prints of histories, for tools/show, tools/histories and tools/transitions, and says what of them is shown."""
+"""Reads what `ccalc` prints of histories, for all tools that do, and says what of them is shown."""
 from __future__ import annotations
 
 import argparse
@@ -68,10 +68,11 @@ def history_of(lines: list[str]) -> History:
     """The history that lines tell, from its heading to its key."""
     heading = HEADING.fullmatch(lines[0])
     assert heading is not None
-    horizon, body = int(heading[1]), lines[1:-1]
+    body = lines[1:-1]
+    horizon = len(body) // 2
     fronts = [front for step in range(horizon + 1) for front in ("ACTIONS:", f"{step}:")][1:]
     if [line.split("  ")[0] for line in body] != fronts:
-        raise Wrong(f"the lines after `{lines[0]}` are no history of horizon {horizon}")
+        raise Wrong(f"the lines after `{lines[0]}` are no history: a line for each step, and one with ACTIONS between two of them")
     values = [values_in(line) for line in body]
     title = " ".join(word for word in (heading[2], heading[3]) if word)
     return History(lines[0], horizon, title, lines[-1].removeprefix("key "), values[0::2], values[1::2])
@@ -91,6 +92,22 @@ def listing_of(lines: Iterable[str]) -> Listing:
     if open_lines:
         raise Wrong(f"the listing ends within the history of `{open_lines[0]}`")
     return Listing(entries)
+
+
+def histories(lines: Iterable[str]) -> list[list[tuple[str, ...]]]:
+    """The histories of a listing as texts alone: each is a list of states and actions in turn, with what is true or done as it is printed."""
+    found: list[list[tuple[str, ...]]] = []
+    history: list[tuple[str, ...]] | None = None
+    for line in lines:
+        line = line.rstrip("\n")
+        if HEADING.fullmatch(line):
+            history = []
+        elif history is not None and line.startswith("key "):
+            found.append(history)
+            history = None
+        elif history is not None:
+            history.append(tuple(line.split("  ")[1:]))
+    return found
 
 
 def read_listing(name: str | None) -> Listing:
