@@ -213,9 +213,13 @@ class Writer:
         free = {it: self.names.attributes[action.name, it] for it in action.parameters if it not in bound}
         body = [f"{self.names.attributes[action.name, it]}={self.names.variable(it)}" for it in action.parameters if it in bound]
         tests: list[str] = []
+        # A test takes variables alone that stand in the law before it, and no constant.
+        atoms = [leaf for one in conditions for leaf in leaves(one) if isinstance(leaf, Atom)]
+        said = {*head, *bound, *(it for leaf in atoms for it in leaf.terms)}
         for one in conditions:
-            found = leaves(one)
-            is_test = all(isinstance(leaf, Equal) for leaf in found) and not any(it in free for leaf in found for it in terms_of(leaf))
+            terms_here = [it for leaf in leaves(one) for it in terms_of(leaf)]
+            is_said = not any(it in free or it in outer and it not in said for it in terms_here)
+            is_test = is_said and all(isinstance(leaf, Equal) for leaf in leaves(one))
             (tests if is_test else body).append(self.formula(one, free, 3))
         terms = {*head, *(it for one in conditions for leaf in leaves(one) for it in terms_of(leaf))}
         ranging = bound | {it for it in outer if it in terms}
