@@ -121,7 +121,7 @@ class Judge:
             raise Fault("has spent its budget", True)
         if code not in (0, 1, 7):
             said = (lines_of(self.folder / f"{job.name}.err") or [""])[0]
-            killed = f" was ended by signal {code - 128}" if code > 128 else ""
+            killed = f"was ended by signal {code - 128}" if code > 128 else ""
             raise Fault(f"{FAULTS.get(code, killed or 'has failed')}, exit code {code}{f': {said}' if said else ''}")
         return code
 
