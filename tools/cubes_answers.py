@@ -121,8 +121,9 @@ class Judge:
             raise Fault("has spent its budget", True)
         if code not in (0, 1, 7):
             said = (lines_of(self.folder / f"{job.name}.err") or [""])[0]
-            killed = f"was ended by signal {code - 128}" if code > 128 else ""
-            raise Fault(f"{FAULTS.get(code, killed or 'has failed')}, exit code {code}{f': {said}' if said else ''}")
+            if code > 128:
+                raise Fault(f"was ended by signal {code - 128}, exit code {code}")
+            raise Fault(f"{FAULTS.get(code, 'has failed')}, exit code {code}{f': {said}' if said else ''}")
         return code
 
     def judged(self, job: Job) -> Answer:
@@ -137,6 +138,8 @@ class Judge:
             raise Fault("lists a history that does not meet its conditions")
         if any(one >= other for one, other in zip(rows, rows[1:])):
             raise Fault("lists histories out of order")
+        if not self.query.has_claim and not answer.is_whole and len(rows) != self.order.count:
+            raise Fault(f"has stopped behind {len(rows)} histories, which was not asked for")
         self.judge_log(job, answer, rows)
         return answer
 
