@@ -11,6 +11,7 @@ from page.texts import CONTROL, included
 
 ENDINGS = (".cc", ".ccalc")
 MOST_FILES = 2000
+MOST_FOLDERS = 4000
 MOST_BYTES = 8 << 20
 MOST_DEPTH = 8
 
@@ -37,14 +38,14 @@ class Folder:
     def names(self) -> List[str]:
         """The descriptions, by their names from the folder; hidden folders and links out of the folder aside."""
         found: List[str] = []
-        for place, folders, files in os.walk(self.root):
+        for seen, (place, folders, files) in enumerate(os.walk(self.root)):
             depth = len(pathlib.Path(place).relative_to(self.root).parts)
             folders[:] = sorted(name for name in folders if not name.startswith(".")) if depth < MOST_DEPTH else []
             for name in files:
                 path = os.path.relpath(os.path.join(place, name), self.root)
                 if name.endswith(ENDINGS) and not CONTROL.search(path) and not has_surrogate(path) and self.is_within(path):
                     found.append(path)
-            if len(found) > MOST_FILES:
+            if len(found) > MOST_FILES or seen > MOST_FOLDERS:
                 break
         return sorted(found[:MOST_FILES])
 
@@ -90,7 +91,7 @@ class Folder:
             raise Refused(f"the text has more than {MOST_BYTES >> 20} megabytes")
         try:
             if (path.stat().st_mtime_ns if path.exists() else None) != since:
-                raise Refused(f"{name} was changed by another program; open it again, or save under another name")
+                raise Refused(f"{name} was changed by another program after it was opened; copy your text, and load the page again")
             mode = stat.S_IMODE(path.stat().st_mode) if path.exists() else 0o644
             handle, made = tempfile.mkstemp(dir=path.parent, prefix=".ccalc-page-")
             try:

@@ -12,6 +12,7 @@ QUERY = re.compile(r"\s*:-\s*query\b")
 INCLUDE = re.compile(r"\s*:-\s*include\s*'([^'\n]+)'")
 LABEL = re.compile(r"\blabel\s*::\s*(\w+)")
 CLAIM = re.compile(r"\bclaim\s*::\s*(\w+)\s*:")
+MOST_READ = 1 << 20  # letters; the program reads no file of more bytes, so what stands in a longer text is of no account
 CONTROL = re.compile("[\x00-\x1f\x7f-\x9f]")
 
 
@@ -34,7 +35,9 @@ class Query:
 
 
 def statements(text: str) -> Iterator[Statement]:
-    """The statements of a text, each up to its dot; what stands after the last dot is a last one."""
+    """The statements of a text, each up to its dot; what stands after the last dot is a last one. Of a text too long to be read, none."""
+    if len(text) > MOST_READ:
+        return
     ends = [match.start() for match in re.finditer("\n", text)]
     body: List[str] = []
     first = None

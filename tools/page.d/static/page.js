@@ -132,9 +132,11 @@ async function openFile(name) {
     editor.set(state.drafts.get(name) ?? found.text);
     state.drafts.delete(name);
     if (found.note) $("saved").textContent = found.note;
+    $("file").value = name;
     document.title = `${name} - CCalc`;
     location.hash = encodeURIComponent(name);
   } catch (error) {
+    $("file").value = state.name ?? "";
     $("saved").textContent = error.message;
   }
 }
@@ -172,7 +174,7 @@ function clearAnswer() {
   state.answer = null;
   for (const id of ["verdict", "history", "list", "sure", "drawing"]) $(id).replaceChildren();
   for (const id of ["walker", "why", "picture", "stale"]) $(id).hidden = true;
-  $("verdict").append(make("p", { class: "none" }, "Ask a query, and its answer stands here."));
+  $("verdict").append(make("p", { class: "none" }, "Ask a query to see its answer here."));
 }
 
 function newAnswer(query, kind) {
