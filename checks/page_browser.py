@@ -79,7 +79,7 @@ class Lesson(unittest.TestCase):
         strange.write_text(page.STRANGE.format(python=sys.executable))
         strange.chmod(0o755)
         cls.served = page.Served(root, pathlib.Path(os.environ["CCALC_PROGRAM"]), page.Limits())
-        cls.strangely = page.Served(root, strange, page.Limits())
+        cls.strangely = page.Served(root, strange, page.Limits(seconds=600))
         cls.driver = made_driver(str(root / ".profile"))
 
     @classmethod
