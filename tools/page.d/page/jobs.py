@@ -66,8 +66,12 @@ class Desk:
             if job is None:
                 raise Refused(f"there is no job {task.asked.get('kind')}")
             with tempfile.TemporaryDirectory(prefix="ccalc-page-") as made:
+                lines: List[bytes] = []
                 for event in job(Work(self, task, pathlib.Path(made))):
-                    yield line_of(event)
+                    lines.append(line_of(event))
+                    if event["kind"] in ("tick", "end"):  # one write for all that came within a tick
+                        yield b"".join(lines)
+                        lines = []
         except Refused as refused:
             yield line_of({"kind": "end", "code": None, "reason": "refused", "text": str(refused), "refusal": None})
         except OSError as error:
