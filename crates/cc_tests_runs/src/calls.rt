@@ -1,6 +1,7 @@
 //! The calls between a description and a run, each with memory enough: what tables have, laws with heads of any form, the events of a
 //! search, and whether and why a history is one.
-ghost use Rattle.std.specs.Prelude.{◌≡◌, ◌≢◌, ◌<◌, ◌≤◌, ◌↔◌, IfOk, IsTrue, false, length, true};
+ghost use Rattle.std.specs.Prelude.{◌≡◌, ◌≢◌, ◌<◌, ◌≤◌, ◌↔◌, IfOk, IfSome, IsTrue, false, length, true};
+ghost use Rattle.cc_arena.specs.GroundViews.{plain_ground_query};
 ghost use Rattle.cc_defs.specs.Conditions.{IsSignatureOfDescription};
 ghost use Rattle.cc_defs.specs.Description.{Description, sizes_at};
 ghost use Rattle.cc_defs.specs.Paths.{IsPath};
@@ -9,6 +10,7 @@ ghost use Rattle.cc_defs.specs.declared.event.Ending.{Ending as EndingSeen};
 ghost use Rattle.cc_defs.specs.declared.event.Event.TheVariants as events;
 ghost use Rattle.cc_describe.specs.declared.heads.Heads.TheVariants as heads;
 ghost use Rattle.cc_describe.specs.Describing.{AsksFormulas, HasForms, SaysAll};
+ghost use Rattle.cc_list.specs.Asking.{AreSearchable};
 ghost use Rattle.cc_query.specs.Lefts.{left_of};
 ghost use Rattle.cc_query.specs.Sessions.{HasMore};
 ghost use Rattle.cc_sorts.specs.Tables.{IsSignatureFor};
@@ -92,6 +94,24 @@ fn tell_all(alloc: Global, mut session: Session<'_>) -> Result<String, Fault>
     Ok(told)
 }
 
+fn told_of(
+    alloc: Global,
+    described: &Described,
+    laws: &Laws<'_>,
+    query: GroundQuery<'_>,
+    ask: Ask,
+) -> Result<String, Fault>
+    requires searchable { AreSearchable described.now.sig laws.now
+        (plain_ground_query query) ask.after }
+    requires count { IfSome ask.count (λ most. 1 ≤ most) }
+    requires budget { ask.budget ≤ 2000000 }
+{
+    tell_all(
+        alloc,
+        Session::new(alloc, &described.sig, laws, query, ask)?,
+    )
+}
+
 // What a search tells of a description's first query.
 fn search_told(alloc: Global, described: &Described) -> Result<String, Fault>
     requires signature { IsSignatureFor described.now.table described.now.sig }
@@ -106,8 +126,7 @@ fn search_told(alloc: Global, described: &Described) -> Result<String, Fault>
         budget: 200_000,
         after: key,
     };
-    let session = Session::new(alloc, &described.sig, &laws, query, ask)?;
-    tell_all(alloc, session)
+    told_of(alloc, described, &laws, query, ask)
 }
 
 const TOLD: &str = "heading

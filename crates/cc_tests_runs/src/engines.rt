@@ -1,14 +1,18 @@
 //! The engines of sure and general mode and the judges of their logs, over descriptions of two fluents, with memory enough.
-ghost use Rattle.std.specs.Prelude.{◌≡◌, ◌≤◌, IfOk, length, true};
+ghost use Rattle.std.specs.Prelude.{◌≡◌, ◌≤◌, ℕ, IfOk, IsNone, length, true};
+ghost use Rattle.cc_arena.specs.GroundViews.{plain_ground_query};
+ghost use Rattle.cc_defs.specs.Limits.{most_steps};
 ghost use Rattle.cc_describe.specs.Describing.{AsksFormulas, HasForms, HasWideForms};
+ghost use Rattle.cc_form.specs.Queries.{IsQueryAt};
 ghost use Rattle.cc_rivals.specs.Wides.{AreWideLawsFor};
 ghost use Rattle.cc_sorts.specs.Tables.{IsSignatureFor};
 ghost use Rattle.cc_sure.specs.Sures.{HasMore};
+ghost use Rattle.cc_theory.specs.Theories.{AreLawsFor};
 
 use crate::runs::{TWO_FLUENTS, described_text, one_file};
 use bumpalo::Bump;
-use cc_arena::Terms;
-use cc_defs::{Fault, Node, Nums};
+use cc_arena::{GroundQuery, Laws, Terms};
+use cc_defs::{Fault, Node, Nums, Sig};
 use cc_describe::{DescribeStop, Described, DescribedWide, Heads, describe_with};
 use cc_general::{General, GeneralEvent, GeneralVerdict, check_general};
 use cc_ground::laws::declared_have_own_values;
@@ -71,6 +75,22 @@ fn begins_right(mut sure: Sure<'_>) -> Result<bool, Fault>
     )
 }
 
+fn sure_begins_over(
+    alloc: Global,
+    sig: &Sig,
+    laws: &Laws<'_>,
+    query: &GroundQuery<'_>,
+) -> Result<bool, Fault>
+    requires laws { AreLawsFor sig.now laws.now }
+    requires ordered { query.now.lo ≤ query.now.hi }
+    requires most { query.now.hi ≤ most_steps }
+    requires steps { (horizon : ℕ) → query.now.lo ≤ horizon →
+        horizon ≤ query.now.hi → IsQueryAt sig.now horizon (plain_ground_query query.now) }
+    requires claim { IsNone query.now.claim }
+{
+    begins_right(Sure::new(alloc, sig, laws, query, 200_000))
+}
+
 fn sure_begins_right(alloc: Global, described: &Described) -> Result<bool, Fault>
     requires signature { IsSignatureFor described.now.table described.now.sig }
     requires forms { HasForms described.now }
@@ -81,13 +101,7 @@ fn sure_begins_right(alloc: Global, described: &Described) -> Result<bool, Fault
     let prepared = prepare(alloc, described, None, None, &terms)?;
     match prepared.query.claim {
         Some(_) => Ok(false),
-        None => begins_right(Sure::new(
-            alloc,
-            &described.sig,
-            &prepared.laws,
-            &prepared.query,
-            200_000,
-        )),
+        None => sure_begins_over(alloc, &described.sig, &prepared.laws, &prepared.query),
     }
 }
 
@@ -216,6 +230,24 @@ fn is_first(event: &GeneralEvent, wanted: &[u32]) -> bool {
     }
 }
 
+fn general_begins_over(
+    alloc: Global,
+    sig: &Sig,
+    laws: &WideGround<'_>,
+    query: &GroundQuery<'_>,
+    row: &[u32],
+) -> Result<bool, Fault>
+    requires laws { AreWideLawsFor sig.now laws.now }
+    requires ordered { query.now.lo ≤ query.now.hi }
+    requires most { query.now.hi ≤ most_steps }
+    requires steps { (horizon : ℕ) → query.now.lo ≤ horizon →
+        horizon ≤ query.now.hi → IsQueryAt sig.now horizon (plain_ground_query query.now) }
+    requires claim { IsNone query.now.claim }
+{
+    let mut general = General::new(alloc, sig, laws, query, None, 200_000);
+    Ok(is_first(&general.next()?, row))
+}
+
 fn general_begins_with(alloc: Global, said: &DescribedWide, row: &[u32]) -> Result<bool, Fault>
     requires signature { IsSignatureFor said.now.described.table said.now.described.sig }
     requires forms { HasWideForms said.now }
@@ -228,8 +260,7 @@ fn general_begins_with(alloc: Global, said: &DescribedWide, row: &[u32]) -> Resu
     if let Some(_) = query.claim {
         return Ok(false);
     }
-    let mut general = General::new(alloc, &said.described.sig, &laws, &query, None, 200_000);
-    Ok(is_first(&general.next()?, row))
+    general_begins_over(alloc, &said.described.sig, &laws, &query, row)
 }
 
 // Two free fluents, and a law that one of them holds.
