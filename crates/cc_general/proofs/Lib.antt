@@ -3,7 +3,9 @@ mod Accepting
 mod Beginning
 mod Candidates
 mod Checking
+mod EventsGrow
 mod Fairness
+mod HandingOut
 mod Headings
 mod Opened
 mod RowTexts

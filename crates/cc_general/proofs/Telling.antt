@@ -16,8 +16,8 @@ use Rattle.cc_defs.specs.LogTexts.{IsFormed}
 use Rattle.cc_defs.specs.Refusals.{IsRefusedBy}
 use Rattle.cc_defs.specs.Resolved.{Query}
 use Rattle.cc_defs.specs.Runs.{range_of, rows_of}
-use Rattle.cc_general.specs.declared.event.GeneralEvent.{GeneralEvent}
-use Rattle.cc_general.specs.declared.event.GeneralEvent.TheVariants as events
+use Rattle.cc_general.specs.declared.turn.GeneralTurn.{GeneralTurn}
+use Rattle.cc_general.specs.declared.turn.GeneralTurn.TheVariants as events
 use Rattle.cc_general.specs.declared.halt.Halt.{Halt}
 use Rattle.cc_general.specs.declared.halt.Halt.TheVariants as halts
 use Rattle.cc_general.specs.declared.phase.Phase.{Phase}
@@ -39,7 +39,7 @@ use Rattle.cc_search.specs.Searches as searches
 use Rattle.cc_wide.specs.WideLaws.{WideDescription, frame}
 use Rattle.cc_wide.specs.WideRules.{IsGeneral, IsRival}
 
-pub gives_at : (old new expected : GeneralView) (event told : GeneralEvent) → new ≡ expected → event ≡ told → Gives old expected told → Gives old new event
+pub gives_at : (old new expected : GeneralView) (event told : GeneralTurn) → new ≡ expected → event ≡ told → Gives old expected told → Gives old new event
 gives_at old new expected event told is event_is gives = subst (λ (s : GeneralView). Gives old s event) (sym is) (subst (Gives old expected) (sym event_is) gives)
 
 -- ---- how much is left
@@ -153,7 +153,7 @@ module _ (now : GeneralView) where
         );
       }
 
-      pub begun_gives : (new : GeneralView) (event : GeneralEvent) → Gives listing new event → Gives opening new event
+      pub begun_gives : (new : GeneralView) (event : GeneralTurn) → Gives listing new event → Gives opening new event
       begun_gives new event gives = record {
         tells = λ w q run of stands. gives.tells w q run (record { laws = of.laws; query = of.query }) (begun_stands w q run of stands);
         less = let less = gives.less in let most = most_left search.stage in omega arith;
@@ -305,7 +305,7 @@ module _ (now : GeneralView) where
             no_items (one ∷ others) is = absurd (omega arith)
 
         -- there are no more candidates
-        pub exhausted_gives : IsOver now → Comes now search lines.items new after (Some halts.Exhausted) → (then : GeneralView) (event : GeneralEvent) →
+        pub exhausted_gives : IsOver now → Comes now search lines.items new after (Some halts.Exhausted) → (then : GeneralView) (event : GeneralTurn) →
             (0 < now.listed → (event ≡ events.Ended (endings.Complete now.horizon now.listed)) × (then ≡ now)) →
             (now.listed ≡ 0 → (event ≡ events.NoHistory now.horizon) × (then ≡ record now { horizon = now.horizon + 1; phase = phases.Opening })) → Gives listing then event
         exhausted_gives over comes then event some none = by now.listed refl
@@ -371,7 +371,7 @@ module _ (now : GeneralView) where
             good = λ w q of. comes.ready.3 w of.laws;
           }
 
-          pub show_gives : (then : GeneralView) (event : GeneralEvent) → then ≡ record now { listed = now.listed + 1; phase = phases.Listing new kept } →
+          pub show_gives : (then : GeneralView) (event : GeneralTurn) → then ≡ record now { listed = now.listed + 1; phase = phases.Listing new kept } →
               event ≡ events.History now.horizon (now.listed + 1) row shown → Gives listing then event
           show_gives then event then_is event_is = gives_at listing then _ event _ then_is event_is shown_at
 
@@ -379,10 +379,10 @@ pub come_at : (now : GeneralView) (before : SearchView) (begun after : List LogL
     Comes now before begun new after (Some halt) → Comes now before begun new after (Some given)
 come_at now before begun after new halt given same comes = subst (λ (h : Halt). Comes now before begun new after (Some h)) same comes
 
-pub over_told : (now : GeneralView) (search : SearchView) (lines : Vec LogLine) (event told : GeneralEvent) → event ≡ told → Gives (listing now search lines) now told → Gives (listing now search lines) now event
+pub over_told : (now : GeneralView) (search : SearchView) (lines : Vec LogLine) (event told : GeneralTurn) → event ≡ told → Gives (listing now search lines) now told → Gives (listing now search lines) now event
 over_told now search lines event told same gives = subst (Gives (listing now search lines) now) (sym same) gives
 
-pub among_told : (law : HistoriesHaveNoRivals) (now : GeneralView) (new : SearchView) (after : List LogLine) (halt : Halt) (r : Result GeneralEvent Fault) → halt ≡ halts.SpentAmong → IsOver now →
+pub among_told : (law : HistoriesHaveNoRivals) (now : GeneralView) (new : SearchView) (after : List LogLine) (halt : Halt) (r : Result GeneralTurn Fault) → halt ≡ halts.SpentAmong → IsOver now →
     IfSome now.count (λ most. now.listed < most) → IfOk r (λ event. event ≡ events.Spent now.horizon now.listed None (after ++ said.End words.Spent ∷ [])) →
     IfOk r (IsToldOf now new after halt now)
 among_told law now new after halt (Err fault) is over wanting told = tt
@@ -390,26 +390,26 @@ among_told law now new after halt (Ok event) is over wanting told = λ before be
     subst (Gives (listing now before begun) now) (sym told)
     (among_gives now before begun ready law wanting new after over (after ++ said.End words.Spent ∷ []) refl (come_at now before begun.items after new halt halts.SpentAmong is comes))
 
-pub told_gives : (now then : GeneralView) (search new : SearchView) (lines : Vec LogLine) (after : List LogLine) (halt : Halt) (r : Result GeneralEvent Fault) →
+pub told_gives : (now then : GeneralView) (search new : SearchView) (lines : Vec LogLine) (after : List LogLine) (halt : Halt) (r : Result GeneralTurn Fault) →
     IsListingAt now now.listed search lines.items → Comes now search lines.items new after (Some halt) → IfOk r (IsToldOf now new after halt then) → IfOk r (Gives (listing now search lines) then)
 told_gives now then search new lines after halt (Err fault) ready comes told = tt
 told_gives now then search new lines after halt (Ok event) ready comes told = told search lines ready comes
 
-pub only_memory : (general : GeneralView) (r : Result GeneralEvent Fault) → IfErr r (λ fault. fault ≡ faults.OutOfMemory) → IfErr r (IsRightFault general)
+pub only_memory : (general : GeneralView) (r : Result GeneralTurn Fault) → IfErr r (λ fault. fault ≡ faults.OutOfMemory) → IfErr r (IsRightFault general)
 only_memory general (Ok event) is = tt
 only_memory general (Err fault) is = subst (IsRightFault general) (sym is) tt
 
 module _ (now : GeneralView) (search : SearchView) (lines : Vec LogLine) (none : now.listed ≡ 0) (empty : lines.items ≡ [])
     (among : (w : WideDescription) (q : Query) → IsGeneralOf now w q → IsAmong w q now.budget now.horizon [] search []) where
-  pub all_begun_gives : (new : GeneralView) (r : Result GeneralEvent Fault) → IfOk r (Gives (listing now search lines) new) → IfOk r (Gives (opening now) new)
+  pub all_begun_gives : (new : GeneralView) (r : Result GeneralTurn Fault) → IfOk r (Gives (listing now search lines) new) → IfOk r (Gives (opening now) new)
   all_begun_gives new (Err fault) gives = tt
   all_begun_gives new (Ok event) gives = begun_gives now search lines none empty among new event gives
 
-  pub all_begun_fault : (r : Result GeneralEvent Fault) → IfErr r (IsRightFault (listing now search lines)) → IfErr r (IsRightFault (opening now))
+  pub all_begun_fault : (r : Result GeneralTurn Fault) → IfErr r (IsRightFault (listing now search lines)) → IfErr r (IsRightFault (opening now))
   all_begun_fault (Ok event) right = tt
   all_begun_fault (Err fault) right = begun_fault now search lines none empty among fault right
 
-pub good_gives : (old new : GeneralView) (r : Result GeneralEvent Fault) → IfOk r (Gives old new) → (w : WideDescription) (q : Query) → IsGeneralOf old w q → IfOk r (IsGoodEvent w)
+pub good_gives : (old new : GeneralView) (r : Result GeneralTurn Fault) → IfOk r (Gives old new) → (w : WideDescription) (q : Query) → IsGeneralOf old w q → IfOk r (IsGoodEvent w)
 good_gives old new (Err fault) gives w q of = tt
 good_gives old new (Ok event) gives w q of = gives.good w q of
 

@@ -16,8 +16,8 @@ use Rattle.cc_defs.specs.Signatures.{Signature}
 use Rattle.cc_form.specs.Places.{position_sizes}
 use Rattle.cc_form.specs.Queries.{IsQueryAt}
 use Rattle.cc_general.specs.Accepted.{IsUnspentEnding}
-use Rattle.cc_general.specs.declared.event.GeneralEvent.{GeneralEvent}
-use Rattle.cc_general.specs.declared.event.GeneralEvent.TheVariants as events
+use Rattle.cc_general.specs.declared.turn.GeneralTurn.{GeneralTurn}
+use Rattle.cc_general.specs.declared.turn.GeneralTurn.TheVariants as events
 use Rattle.cc_general.specs.declared.phase.Phase.{Phase}
 use Rattle.cc_general.specs.declared.phase.Phase.TheVariants as phases
 use Rattle.cc_general.specs.GeneralRuns.{WentThrough, GeneralEnding, Complete, Asked, NoneAtAll, SpentAmong, SpentOver, GeneralRun, IsFairGeneral, ReachesGeneralLimit, general_horizon, rows_shown}
@@ -96,7 +96,7 @@ IsSpentWith rivals_of lines (SpentAmong section) = (rivals_of ≡ None) × (line
 IsSpentWith rivals_of lines (SpentOver row section) = (rivals_of ≡ Some row) × (lines ≡ section_lines section)
 
 -- with this event a run goes on to the other one
-abbrev pub GoesOnBy : Query → GeneralRun → GeneralEvent → GeneralRun → Type 0
+abbrev pub GoesOnBy : Query → GeneralRun → GeneralTurn → GeneralRun → Type 0
 GoesOnBy q run (events.NoHistory horizon) after =
     (horizon ≡ general_horizon q run) × (run.shown ≡ []) × (after ≡ record run { empty = run.empty + 1 })
 GoesOnBy q run (events.History horizon number row lines) after =
@@ -111,7 +111,7 @@ GoesOnBy q run (events.Spent horizon listed rivals_of lines) after =
     × (after ≡ record run { ending = Some how })
 
 -- Behind what a run told comes this event; with it the run still tells the truth, and the state is where it leaves it.
-abbrev pub TellsNext : WideDescription → Query → GeneralView → GeneralRun → GeneralEvent → Type 0
+abbrev pub TellsNext : WideDescription → Query → GeneralView → GeneralRun → GeneralTurn → Type 0
 TellsNext w q new run event = (after : GeneralRun) × IsNone run.ending × GoesOnBy q run event after × Stands w q new after
 
 -- it is about the same
@@ -129,7 +129,7 @@ IsRightFault general (faults.Refused refusal) = (w : WideDescription) (q : Query
     IsGeneralOf general w q → Stands w q general run → ReachesGeneralLimit w q general.count run refusal
 
 -- there is more to come, but behind an ending
-abbrev pub GoesOn : GeneralView → GeneralEvent → Type 0
+abbrev pub GoesOn : GeneralView → GeneralTurn → Type 0
 GoesOn general (events.NoHistory horizon) = HasMore general
 GoesOn general (events.History horizon number row lines) = HasMore general
 GoesOn general (events.Ended ending) = IsOver general
@@ -142,14 +142,14 @@ pub record IsWritten (signature : Signature) (horizon number : ℕ) (row : Optio
   pub is_row : IfSome row (IsRow (position_sizes signature horizon))
   pub formed : AllByRecursion IsFormed lines
 
-abbrev pub IsWritable : Signature → GeneralEvent → Type 0
+abbrev pub IsWritable : Signature → GeneralTurn → Type 0
 IsWritable signature (events.NoHistory horizon) = horizon ≤ most_steps
 IsWritable signature (events.History horizon number row lines) = IsWritten signature horizon number (Some row) lines
 IsWritable signature (events.Ended ending) = Unit {0}
 IsWritable signature (events.Spent horizon listed rivals_of lines) = IsWritten signature horizon listed rivals_of lines
 
 -- where it is a history, the axioms of its section are clauses over their variables
-abbrev pub IsGoodEvent : WideDescription → GeneralEvent → Type 0
+abbrev pub IsGoodEvent : WideDescription → GeneralTurn → Type 0
 IsGoodEvent w (events.NoHistory horizon) = Unit {0}
 IsGoodEvent w (events.History horizon number row lines) = AreGoodAxioms (rival_axioms w horizon row)
 IsGoodEvent w (events.Ended ending) = Unit {0}

@@ -1,4 +1,5 @@
 pub mod Accepted
+pub mod GeneralEvents
 pub mod GeneralLogs
 pub mod GeneralRuns
 pub mod GeneralTold

@@ -20,7 +20,7 @@ use Rattle.cc_defs.specs.Rows.{IsRow}
 use Rattle.cc_defs.specs.Runs.{EndsWith, Section, Step, TellsRows, rows_of}
 use Rattle.cc_defs.specs.Sections.{Axioms}
 use Rattle.cc_form.specs.Places.{position_sizes}
-use Rattle.cc_general.specs.declared.event.GeneralEvent.{GeneralEvent}
+use Rattle.cc_general.specs.declared.turn.GeneralTurn.{GeneralTurn}
 use Rattle.cc_general.specs.declared.halt.Halt.{Halt}
 use Rattle.cc_general.specs.declared.halt.Halt.TheVariants as halts
 use Rattle.cc_general.specs.declared.phase.Phase.TheVariants as phases
@@ -148,7 +148,7 @@ IsWalkFault general search lines (faults.Refused refusal) = (w : WideDescription
 
 -- ---- what a call gives
 
-pub record Gives (old new : GeneralView) (event : GeneralEvent) : Type 0 where
+pub record Gives (old new : GeneralView) (event : GeneralTurn) : Type 0 where
   pub tells : (w : WideDescription) (q : Query) (run : GeneralRun) → IsGeneralOf old w q → Stands w q old run → TellsNext w q new run event
   pub less : left_of new < left_of old
   pub goes : GoesOn new event
@@ -162,6 +162,6 @@ HasCome general search lines halt =
     × IsListingAt general general.listed before begun.items × Comes general before begun.items search lines (Some halt)
 
 -- From whichever search it has come to it, this is what the call gives.
-abbrev pub IsToldOf : GeneralView → SearchView → List LogLine → Halt → GeneralView → GeneralEvent → Type 0
+abbrev pub IsToldOf : GeneralView → SearchView → List LogLine → Halt → GeneralView → GeneralTurn → Type 0
 IsToldOf old search lines halt new event = (before : SearchView) (begun : Vec LogLine) → IsListingAt old old.listed before begun.items →
     Comes old before begun.items search lines (Some halt) → Gives (record old { phase = phases.Listing before begun }) new event

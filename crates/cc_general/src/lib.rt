@@ -3,14 +3,17 @@
 #![tactic(auto)]
 
 mod check;
-mod event;
 mod general;
 mod halt;
 pub mod laws;
 mod phase;
+mod queue;
+mod turn;
+mod turns;
 mod verdict;
 
 pub use check::check_general;
-pub use event::GeneralEvent;
 pub use general::General;
+pub use turn::GeneralTurn;
+pub use turns::GeneralTurns;
 pub use verdict::GeneralVerdict;

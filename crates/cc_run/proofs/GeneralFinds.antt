@@ -7,8 +7,8 @@ use Rattle.cc_defs.specs.GroundLaws.{PlainGroundQuery, StandsForQuery}
 use Rattle.cc_defs.specs.Resolved.{Query}
 use Rattle.cc_defs.specs.Signatures.{Signature}
 use Rattle.cc_describe.specs.declared.description.DescribedWide.{DescribedWide}
-use Rattle.cc_general.specs.declared.event.GeneralEvent.{GeneralEvent}
-use Rattle.cc_general.specs.declared.event.GeneralEvent.TheVariants as events
+use Rattle.cc_general.specs.declared.turn.GeneralTurn.{GeneralTurn}
+use Rattle.cc_general.specs.declared.turn.GeneralTurn.TheVariants as events
 use Rattle.cc_general.specs.GeneralRuns.{GeneralRun, IsFairGeneral, ReachesGeneralLimit}
 use Rattle.cc_general.specs.Generals.{GeneralView, GoesOn, HasMore, IsGeneralOf, IsGoodEvent, IsSame, IsWritable, Stands, TellsNext, left_of, nothing_told}
 use Rattle.cc_general.specs.GeneralTold.{general_header, general_log}
@@ -35,7 +35,7 @@ use Rattle.cc_run.proofs.SureFinds.{always, joined_both, status_is}
 -- ---- one event
 
 module _ (w : WideDescription) (q : Query) (run : GeneralRun) (old new : GeneralView) (stands : Stands w q old run) where
-  pub event_told : (event : GeneralEvent) (x y : Moment) (r : Result (Option Status) Stop) → TellsNext w q new run event → IsSame old new →
+  pub event_told : (event : GeneralTurn) (x y : Moment) (r : Result (Option Status) Stop) → TellsNext w q new run event → IsSame old new →
       IsWritable old.signature event → IsGoodEvent w event → Step (given_generally (frame w) event) x y r → IfOk r (λ status. status ≡ general_status_behind event) → TellsGeneralEvent w q old.count old.budget run new x y r
   event_told event x y r (after, open_yet, goes, next) same writable good step status = record {
     next = after;
@@ -102,7 +102,7 @@ module _ (w : WideDescription) (q : Query) (run : GeneralRun) (old new : General
   }
 
 -- behind an event that is not the last more is to come
-pub goes_next : (old new : GeneralView) (event : GeneralEvent) (r : Result (Option Status) Stop) → GoesOn new event → left_of new < left_of old →
+pub goes_next : (old new : GeneralView) (event : GeneralTurn) (r : Result (Option Status) Stop) → GoesOn new event → left_of new < left_of old →
     IfOk r (λ status. status ≡ general_status_behind event) → IfOk r (λ status. IsNone status → HasMore new × (left_of new < left_of old))
 goes_next old new event (Err stop) goes less is = tt
 goes_next old new (events.NoHistory horizon) (Ok status) goes less is = λ none. (goes, less)

@@ -10,8 +10,8 @@ use Rattle.cc_defs.specs.Description.{Description}
 use Rattle.cc_defs.specs.Events.{out_text, told_text}
 use Rattle.cc_defs.specs.Resolved.{Query}
 use Rattle.cc_defs.specs.Runs.{Section, range_of, told, told_row}
-use Rattle.cc_general.specs.declared.event.GeneralEvent.{GeneralEvent}
-use Rattle.cc_general.specs.declared.event.GeneralEvent.TheVariants as events
+use Rattle.cc_general.specs.declared.turn.GeneralTurn.{GeneralTurn}
+use Rattle.cc_general.specs.declared.turn.GeneralTurn.TheVariants as events
 use Rattle.cc_general.specs.GeneralRuns.{GeneralEnding, Complete, Asked, NoneAtAll, SpentAmong, SpentOver, GeneralRun, Shown, general_horizon}
 use Rattle.cc_general.specs.Accepted.{IsUnspentEnding}
 use Rattle.cc_general.specs.Generals.{GoesOnBy, IsSpentWith}
@@ -26,19 +26,19 @@ use Rattle.cc_wide.specs.WideLaws.{WideDescription, frame}
 
 -- ---- what is told of an event
 
-abbrev told_by : GeneralEvent → Told
+abbrev told_by : GeneralTurn → Told
 told_by (events.NoHistory horizon) = told (said.NoHistory horizon)
 told_by (events.History horizon number row lines) = told_row (said.History horizon number) row
 told_by (events.Ended ending) = told (said.Ended ending)
 told_by (events.Spent horizon listed rivals_of lines) = told (said.Ended (endings.Spent horizon listed))
 
-abbrev logged_by : GeneralEvent → List ℕ
+abbrev logged_by : GeneralTurn → List ℕ
 logged_by (events.NoHistory horizon) = []
 logged_by (events.History horizon number row lines) = heading_for horizon (Some row) ++ lines_text lines
 logged_by (events.Ended ending) = []
 logged_by (events.Spent horizon listed rivals_of lines) = heading_for horizon rivals_of ++ lines_text lines
 
-given_is : (d : Description) (event : GeneralEvent) → given_generally d event ≡ record { out = out_text d (told_by event ∷ []); err = []; log = logged_by event }
+given_is : (d : Description) (event : GeneralTurn) → given_generally d event ≡ record { out = out_text d (told_by event ∷ []); err = []; log = logged_by event }
 given_is d (events.NoHistory horizon) = refl
 given_is d (events.History horizon number row lines) = refl
 given_is d (events.Ended ending) = refl
@@ -74,7 +74,7 @@ module _ (q : Query) where
   over empty shown how = record { empty = empty; shown = shown; ending = Some how }
 
   -- behind this run comes this event
-  abbrev Grows : GeneralRun → GeneralEvent → GeneralRun → Type 0
+  abbrev Grows : GeneralRun → GeneralTurn → GeneralRun → Type 0
   Grows run event after = (general_told q after ≡ general_told q run ++ told_by event ∷ []) × (general_log q after ≡ general_log q run ++ logged_by event)
 
   module _ (empty : ℕ) (shown : List Shown) where
@@ -139,7 +139,7 @@ module _ (q : Query) where
     spent_ending rivals_of lines (SpentOver row section) is = refl
 
     -- a run that has not ended goes on so
-    grows : (event : GeneralEvent) (after : GeneralRun) → GoesOnBy q (going empty shown) event after → Grows (going empty shown) event after
+    grows : (event : GeneralTurn) (after : GeneralRun) → GoesOnBy q (going empty shown) event after → Grows (going empty shown) event after
     grows (events.NoHistory horizon) after (here, bare, is) =
         subst (λ (r : GeneralRun). Grows (going empty shown) (events.NoHistory horizon) r) (sym is)
         (subst (λ (h : ℕ). Grows (going empty shown) (events.NoHistory h) (going (empty + 1) shown)) (sym here) (no_history bare))
@@ -162,12 +162,12 @@ module _ (q : Query) where
           ended_log how ∙ ap (λ (l : List ℕ). general_log q (going empty shown) ++ l) (spent_logged rivals_of lines how spent),
         )))
 
-  grows_behind : (run : GeneralRun) (event : GeneralEvent) (after : GeneralRun) → IsNone run.ending → GoesOnBy q run event after → Grows run event after
+  grows_behind : (run : GeneralRun) (event : GeneralTurn) (after : GeneralRun) → IsNone run.ending → GoesOnBy q run event after → Grows run event after
   grows_behind run event after open_yet =
       let bare : run ≡ going run.empty run.shown = λ i. record { empty = run.empty; shown = run.shown; ending = none_of run.ending open_yet i } in
       subst (λ (r : GeneralRun). GoesOnBy q r event after → Grows r event after) (sym bare) (grows run.empty run.shown event after)
 
-module _ (w : WideDescription) (q : Query) (run : GeneralRun) (event : GeneralEvent) (after : GeneralRun) (goes : GoesOnBy q run event after) where
+module _ (w : WideDescription) (q : Query) (run : GeneralRun) (event : GeneralTurn) (after : GeneralRun) (goes : GoesOnBy q run event after) where
   -- what a run gives grows by what is told
   pub grown : IsNone run.ending → joined (generally_given w q run) (given_generally (frame w) event) ≡ generally_given w q after
   grown open_yet =
@@ -190,7 +190,7 @@ spent_status rivals_of lines (SpentAmong section) horizon listed is = refl
 spent_status rivals_of lines (SpentOver row section) horizon listed is = refl
 
 -- the run ends as its last event says
-pub ends_so : (w : WideDescription) (q : Query) (count : Option ℕ) (run : GeneralRun) (event : GeneralEvent) (after : GeneralRun) → GoesOnBy q run event after →
+pub ends_so : (w : WideDescription) (q : Query) (count : Option ℕ) (run : GeneralRun) (event : GeneralTurn) (after : GeneralRun) → GoesOnBy q run event after →
     EndsGenerally w q count after [] (general_status_behind event)
 ends_so w q count run (events.NoHistory horizon) after goes = refl
 ends_so w q count run (events.History horizon number row lines) after goes = refl

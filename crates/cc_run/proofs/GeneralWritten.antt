@@ -8,8 +8,8 @@ use Rattle.cc_defs.specs.LogTexts.{IsFormed}
 use Rattle.cc_defs.specs.Resolved.{Query}
 use Rattle.cc_defs.specs.Runs.{range_of}
 use Rattle.cc_defs.specs.Signatures.{Signature}
-use Rattle.cc_general.specs.declared.event.GeneralEvent.{GeneralEvent}
-use Rattle.cc_general.specs.declared.event.GeneralEvent.TheVariants as events
+use Rattle.cc_general.specs.declared.turn.GeneralTurn.{GeneralTurn}
+use Rattle.cc_general.specs.declared.turn.GeneralTurn.TheVariants as events
 use Rattle.cc_general.specs.Accepted.{IsWritableShown}
 use Rattle.cc_general.specs.GeneralRuns.{GeneralRun, IsFairGeneral, IsShownRightly, Shown, general_horizon, rows_shown}
 use Rattle.cc_general.specs.Generals.{GoesOnBy, IsGoodEvent, IsWritable}
@@ -44,7 +44,7 @@ module _ (w : WideDescription) (q : Query) (count : Option ℕ) (budget : ℕ) (
       all_append (IsWritableShown w at) run.shown (one ∷ []) before (shown_written w q budget at one (fair.first.each one.row there) right formed good, tt)
 
   -- what is told next can be written, as what was told before
-  pub more_written : (signature : Signature) (event : GeneralEvent) (after : GeneralRun) → GoesOnBy q run event after → IsFairGeneral w q count budget after →
+  pub more_written : (signature : Signature) (event : GeneralTurn) (after : GeneralRun) → GoesOnBy q run event after → IsFairGeneral w q count budget after →
       IsWritable signature event → IsGoodEvent w event → IsWritableGeneral w q run → IsWritableGeneral w q after
   more_written signature (events.NoHistory horizon) after (here, bare, is) fair writable good before =
       subst (λ (r : GeneralRun). IsWritableGeneral w q r) (sym is)

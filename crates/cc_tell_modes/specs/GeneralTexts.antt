@@ -8,8 +8,8 @@ use Rattle.cc_defs.specs.Description.{Description}
 use Rattle.cc_defs.specs.Events.{out_text}
 use Rattle.cc_defs.specs.LogTexts.{line_text}
 use Rattle.cc_defs.specs.Runs.{told, told_row}
-use Rattle.cc_general.specs.declared.event.GeneralEvent.{GeneralEvent}
-use Rattle.cc_general.specs.declared.event.GeneralEvent.TheVariants as events
+use Rattle.cc_general.specs.declared.turn.GeneralTurn.{GeneralTurn}
+use Rattle.cc_general.specs.declared.turn.GeneralTurn.TheVariants as events
 use Rattle.cc_general.specs.GeneralTold.{rivals_heading}
 use Rattle.cc_tell.specs.declared.status.Status.{Status}
 use Rattle.cc_tell.specs.declared.status.Status.TheVariants as statuses
@@ -25,7 +25,7 @@ heading_for horizon None = line_text (lines.Section false horizon)
 heading_for horizon (Some row) = rivals_heading horizon row
 
 -- what is given of an event
-abbrev pub given_generally : Description → GeneralEvent → Given
+abbrev pub given_generally : Description → GeneralTurn → Given
 given_generally d (events.NoHistory horizon) = record { out = out_text d (told (said.NoHistory horizon) ∷ []); err = []; log = [] }
 given_generally d (events.History horizon number row lines) = record {
   out = out_text d (told_row (said.History horizon number) row ∷ []);
@@ -40,7 +40,7 @@ given_generally d (events.Spent horizon listed rivals_of lines) = record {
 }
 
 -- the status of a run whose last event this is; none where more is to come
-abbrev pub general_status_behind : GeneralEvent → Option Status
+abbrev pub general_status_behind : GeneralTurn → Option Status
 general_status_behind (events.NoHistory horizon) = None
 general_status_behind (events.History horizon number row lines) = None
 general_status_behind (events.Ended ending) = Some (status_of ending)

@@ -7,7 +7,7 @@ ghost use Rattle.cc_defs.specs.LogTexts.{IsFormed};
 ghost use Rattle.cc_defs.specs.Rows.{IsRow};
 ghost use Rattle.cc_defs.specs.Runs.{told};
 ghost use Rattle.cc_form.specs.Places.{position_sizes};
-ghost use Rattle.cc_general.specs.declared.event.GeneralEvent.TheVariants as events;
+ghost use Rattle.cc_general.specs.declared.turn.GeneralTurn.TheVariants as events;
 ghost use Rattle.cc_general.specs.GeneralTold.{rivals_heading};
 ghost use Rattle.cc_general.specs.Generals.{IsWritable};
 ghost use Rattle.cc_ports.specs.declared.desk.To.TheVariants as outputs;
@@ -19,7 +19,7 @@ ghost use Rattle.cc_tell.specs.Givens.{given_to};
 
 use crate::certain::{horizon_line, tell_lines};
 use cc_defs::{Ending, Event, LogLine, OutOfMemory, Row, Sig, Text};
-use cc_general::GeneralEvent;
+use cc_general::GeneralTurn;
 use cc_ports::{Desk, To};
 use cc_print::key_line;
 use cc_sorts::Table;
@@ -116,7 +116,7 @@ fn tell<D: Desk>(
     desk: &mut D,
     table: &Table,
     sig: &Sig,
-    event: &GeneralEvent,
+    event: &GeneralTurn,
 ) -> Result<(), Stop>
     requires signature { IsSignatureFor table.now sig.now }
     requires writable { IsWritable sig.now event.now }
@@ -124,10 +124,10 @@ fn tell<D: Desk>(
         Step (given_generally d event.now) (D.seen desk.old) (D.seen desk.new) result }
 {
     match event {
-        GeneralEvent::NoHistory { horizon } => {
+        GeneralTurn::NoHistory { horizon } => {
             tell_alone(alloc, desk, &Event::NoHistory { horizon: *horizon })
         }
-        GeneralEvent::History {
+        GeneralTurn::History {
             horizon,
             number,
             row,
@@ -142,8 +142,8 @@ fn tell<D: Desk>(
             row.items(),
             lines.items(),
         ),
-        GeneralEvent::Ended(ending) => tell_alone(alloc, desk, &Event::Ended(*ending)),
-        GeneralEvent::Spent {
+        GeneralTurn::Ended(ending) => tell_alone(alloc, desk, &Event::Ended(*ending)),
+        GeneralTurn::Spent {
             horizon,
             listed,
             rivals_of,
@@ -153,13 +153,13 @@ fn tell<D: Desk>(
 }
 
 /// The status of a run whose last event this is; none where more is to come.
-fn status_behind(event: &GeneralEvent) -> Option<Status>
+fn status_behind(event: &GeneralTurn) -> Option<Status>
     ensures { result ≡ general_status_behind event.now }
 {
     match event {
-        GeneralEvent::NoHistory { .. } | GeneralEvent::History { .. } => None,
-        GeneralEvent::Ended(ending) => Some(status_of(*ending)),
-        GeneralEvent::Spent { .. } => Some(Status::Spent),
+        GeneralTurn::NoHistory { .. } | GeneralTurn::History { .. } => None,
+        GeneralTurn::Ended(ending) => Some(status_of(*ending)),
+        GeneralTurn::Spent { .. } => Some(Status::Spent),
     }
 }
 
@@ -169,7 +169,7 @@ pub fn tell_general<D: Desk>(
     desk: &mut D,
     table: &Table,
     sig: &Sig,
-    event: &GeneralEvent,
+    event: &GeneralTurn,
 ) -> Result<Option<Status>, Stop>
     requires signature { IsSignatureFor table.now sig.now }
     requires writable { IsWritable sig.now event.now }

@@ -22,7 +22,7 @@ use bumpalo::Bump;
 use cc_arena::Terms;
 use cc_defs::Fault;
 use cc_describe::DescribedWide;
-use cc_general::General;
+use cc_general::GeneralTurns;
 use cc_general::laws::general_logs_are_accepted;
 use cc_ports::{Desk, To};
 use cc_tell::{Status, Stop, begin_log, file_named, give, refuse, tell_limit};
@@ -35,7 +35,7 @@ fn tell_next<D: Desk>(
     alloc: Global,
     desk: &mut D,
     said: &DescribedWide,
-    general: &mut General<'_>,
+    general: &mut GeneralTurns<'_>,
 ) -> Result<Option<Status>, Stop>
     requires signature { IsSignatureFor said.now.described.table said.now.described.sig }
     requires same { said.now.described.sig ≡ general.old.signature }
@@ -71,7 +71,7 @@ fn tell_all<D: Desk>(
     alloc: Global,
     desk: &mut D,
     said: &DescribedWide,
-    mut general: General<'_>,
+    mut general: GeneralTurns<'_>,
 ) -> Result<Status, Stop>
     requires signature { IsSignatureFor said.now.described.table said.now.described.sig }
     requires same { said.now.described.sig ≡ general.signature }
@@ -117,7 +117,7 @@ fn tell_run<D: Desk>(
         StandsForWide said.now.described prepared.now w q →
         TellsGenerally w q count budget nothing (D.seen desk.old) (D.seen desk.new) result }
 {
-    let general = General::new(
+    let general = GeneralTurns::new(
         alloc,
         &said.described.sig,
         &prepared.laws,

@@ -1,5 +1,5 @@
 use Rattle.std.proofs.Common.{◌∙◌, ap, sym}
-use Rattle.cc_general.specs.declared.event.GeneralEvent.TheVariants as events
+use Rattle.cc_general.specs.declared.turn.GeneralTurn.TheVariants as events
 use Rattle.cc_tell_modes.specs.GeneralTexts.{given_generally}
 use Rattle.cc_tell.proofs.GivenSteps.{step_as}
 use Rattle.cc_tell_modes.proofs.generally.tell.Goals as goal

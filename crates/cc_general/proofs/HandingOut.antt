@@ -1,0 +1,74 @@
+-- One event after another is handed out of the turns of a run.
+use Rattle.std.proofs.Common.{◌≡◌, ◌≢◌, ◌⊎◌, ◌∙◌, refl, sym, ap, subst, ℕ, ◌<◌, List, [], ◌∷◌, ◌++◌, length, inl, inr, append_assoc, append-nil, arith}
+use Rattle.cc_defs.specs.declared.event.Event.{Event}
+use Rattle.cc_defs.specs.declared.event.Told.{Told}
+use Rattle.cc_defs.specs.declared.refusal.Fault.{Fault}
+use Rattle.cc_defs.specs.declared.refusal.Fault.TheVariants as faults
+use Rattle.cc_defs.specs.Resolved.{Query}
+use Rattle.cc_general.specs.declared.turn.GeneralTurn.{GeneralTurn}
+use Rattle.cc_general.specs.GeneralEvents.{After, Finishes, GeneralQueue, HandsOut, HasMoreEvents, IsEnd, IsQueue, IsRightFaultBehind, general_events, told_with, turn_events, turn_row, with_candidate}
+use Rattle.cc_general.specs.GeneralRuns.{GeneralRun}
+use Rattle.cc_general.specs.Generals.{GeneralView, GoesOn, HasMore, IsGeneralOf, IsOver, IsRightFault, IsSame, Stands, TellsNext, left_of}
+use Rattle.cc_general.proofs.EventsGrow.{grows_behind, more_behind, turn_finishes}
+use Rattle.cc_wide.specs.WideLaws.{WideDescription}
+
+module _ (turns : GeneralView) (row : List ℕ) (event : Event) (others : List Event) where
+  abbrev full : GeneralQueue
+  full = record { turns = turns; row = row; queued = event ∷ others }
+
+  abbrev rest : GeneralQueue
+  rest = record { turns = turns; row = row; queued = others }
+
+  told_first : (w : WideDescription) (q : Query) (given : List Told) → After w q full given → After w q rest (given ++ with_candidate event row ∷ [])
+  told_first w q given (run, stands, is) =
+      (run, stands, is ∙ sym (append_assoc given (with_candidate event row ∷ []) (told_with row others)))
+
+  more_first : (IsOver turns → Finishes (event ∷ others)) → (IsEnd event → ⊥) → HasMoreEvents rest
+  more_first finishes no_end = by others finishes
+    where
+      by : (l : List Event) → (IsOver turns → Finishes (event ∷ l)) → (l ≢ []) ⊎ HasMore turns
+      by [] is = inr (λ over. no_end (is over))
+      by (next ∷ more) is = inl (λ same. absurd cc)
+
+  first_hands : IsQueue full → HandsOut full rest event
+  first_hands queue = record {
+    tells = λ w q given of after. told_first w q given after;
+    same = record { signature = refl; laws = refl; query = refl; count = refl; budget = refl };
+    more = more_first queue;
+    less = inr (refl, omega arith);
+  }
+
+pub popped : (old : GeneralQueue) (event : Event) (others : List Event) → IsQueue old → old.queued ≡ event ∷ others →
+    HandsOut old (record { turns = old.turns; row = old.row; queued = others }) event
+popped old event others queue is =
+    let same : old ≡ full old.turns old.row event others = λ i. record { turns = old.turns; row = old.row; queued = is i } in
+    subst (λ (g : GeneralQueue). HandsOut g (rest old.turns old.row event others) event) (sym same)
+    (first_hands old.turns old.row event others (subst IsQueue same queue))
+
+module _ (old : GeneralQueue) (empty : old.queued ≡ []) (turns : GeneralView) (turn : GeneralTurn)
+    (tells : (w : WideDescription) (q : Query) (run : GeneralRun) → IsGeneralOf old.turns w q → Stands w q old.turns run → TellsNext w q turns run turn) where
+  all_told : (q : Query) (given : List Told) (run : GeneralRun) → general_events q run ≡ given ++ told_with old.row old.queued → general_events q run ≡ given
+  all_told q given run is = is ∙ (ap (λ (l : List Event). given ++ told_with old.row l) empty ∙ append-nil given)
+
+  turned_after : (w : WideDescription) (q : Query) (given : List Told) → IsGeneralOf old.turns w q → After w q old given →
+      After w q (record { turns = turns; row = turn_row turn; queued = turn_events turn }) given
+  turned_after w q given of (run, stands, is) =
+      let (after, open_yet, goes, next) = tells w q run of stands in
+      (after, next, grows_behind q run turn after open_yet goes ∙ ap (λ (l : List Told). l ++ told_with (turn_row turn) (turn_events turn)) (all_told q given run is))
+
+  pub turned : (row : List ℕ) (event : Event) (others : List Event) → row ≡ turn_row turn → turn_events turn ≡ event ∷ others → IsSame old.turns turns →
+      left_of turns < left_of old.turns → GoesOn turns turn → HandsOut old (record { turns = turns; row = row; queued = others }) event
+  turned row event others row_is queue_is same less goes = record {
+    tells = λ w q given of after.
+        told_first turns row event others w q given
+        (subst (λ (g : GeneralQueue). After w q g given) (λ i. record { turns = turns; row = sym row_is i; queued = queue_is i }) (turned_after w q given of after));
+    same = same;
+    more = more_first turns row event others (λ over. subst Finishes queue_is (turn_finishes turns turn goes over));
+    less = inl less;
+  }
+
+pub fault_behind : (old : GeneralQueue) → old.queued ≡ [] → (fault : Fault) → IsRightFault old.turns fault → IsRightFaultBehind old fault
+fault_behind old empty faults.OutOfMemory is = tt
+fault_behind old empty (faults.Refused refusal) is = λ w q given of after.
+    let (run, stands, events) = after in
+    (run, events ∙ (ap (λ (l : List Event). given ++ told_with old.row l) empty ∙ append-nil given), is w q run of stands)
