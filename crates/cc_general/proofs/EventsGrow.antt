@@ -105,9 +105,8 @@ module _ (q : Query) where
 
     no_history : shown ≡ [] → Grows (going empty shown) (turns.NoHistory at) (going (empty + 1) shown)
     no_history is = subst (λ (s : List Shown). Grows (going empty s) (turns.NoHistory at) (going (empty + 1) s)) (sym is) (
-      append-nil _ ∙ (append-nil _ ∙ (ap (none_told (range_of q).0) (add_one empty) ∙ (none_more (range_of q).0 empty
-          ∙ ap (λ (l : List Told). l ++ told (events.NoHistory at) ∷ []) (sym (append-nil _ ∙ append-nil none))))),
-    )
+        append-nil _ ∙ (append-nil _ ∙ (ap (none_told (range_of q).0) (add_one empty) ∙ (none_more (range_of q).0 empty
+        ∙ ap (λ (l : List Told). l ++ told (events.NoHistory at) ∷ []) (sym (append-nil _ ∙ append-nil none))))))
 
     a_history : (row : List ℕ) (section : Section) → Grows (going empty shown) (turns.History at (length shown + 1) row (section_lines section))
         (going empty (shown ++ record { row = row; section = section } ∷ []))
