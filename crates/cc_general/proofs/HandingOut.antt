@@ -1,16 +1,20 @@
 -- One event after another is handed out of the turns of a run.
-use Rattle.std.proofs.Common.{◌≡◌, ◌≢◌, ◌⊎◌, ◌∙◌, refl, sym, ap, subst, ℕ, ◌<◌, List, [], ◌∷◌, ◌++◌, length, inl, inr, append_assoc, append-nil, arith}
+use Rattle.std.proofs.Common.{◌≡◌, ◌≢◌, ◌⊎◌, ◌∙◌, refl, sym, ap, subst, ℕ, ◌<◌, List, [], ◌∷◌, ◌++◌, length, Some, None, inl, inr, append_assoc, append-nil, arith}
 use Rattle.cc_defs.specs.declared.event.Event.{Event}
 use Rattle.cc_defs.specs.declared.event.Told.{Told}
 use Rattle.cc_defs.specs.declared.refusal.Fault.{Fault}
 use Rattle.cc_defs.specs.declared.refusal.Fault.TheVariants as faults
 use Rattle.cc_defs.specs.Resolved.{Query}
 use Rattle.cc_general.specs.declared.turn.GeneralTurn.{GeneralTurn}
+use Rattle.cc_general.specs.declared.turn.GeneralTurn.TheVariants as kinds
 use Rattle.cc_general.specs.GeneralEvents.{After, Finishes, GeneralQueue, HandsOut, HasMoreEvents, IsEnd, IsQueue, IsRightFaultBehind, general_events, told_with, turn_events, turn_row, with_candidate}
 use Rattle.cc_general.specs.GeneralRuns.{GeneralRun}
-use Rattle.cc_general.specs.Generals.{GeneralView, GoesOn, HasMore, IsGeneralOf, IsOver, IsRightFault, IsSame, Stands, TellsNext, left_of}
-use Rattle.cc_general.proofs.EventsGrow.{grows_behind, more_behind, turn_finishes}
+use Rattle.cc_general.specs.Generals.{GeneralView, GoesOn, HasMore, IsGeneralOf, IsOver, IsRightFault, IsSame, Stands, TellsNext, left_of, nothing_told}
+use Rattle.cc_general.proofs.EventsGrow.{grows_behind, rest_finishes, turn_finishes}
 use Rattle.cc_wide.specs.WideLaws.{WideDescription}
+
+nothing_first : (event : Event) (others : List Event) → event ∷ others ≡ [] → ⊥
+nothing_first event others same = absurd cc
 
 module _ (turns : GeneralView) (row : List ℕ) (event : Event) (others : List Event) where
   abbrev full : GeneralQueue
@@ -72,3 +76,44 @@ fault_behind old empty faults.OutOfMemory is = tt
 fault_behind old empty (faults.Refused refusal) is = λ w q given of after.
     let (run, stands, events) = after in
     (run, events ∙ (ap (λ (l : List Event). given ++ told_with old.row l) empty ∙ append-nil given), is w q run of stands)
+
+-- ---- what the calls give, of a general whose parts these are
+
+pub nothing_after : (w : WideDescription) (q : Query) (turns : GeneralView) (row : List ℕ) (queued : List Event) → queued ≡ [] → Stands w q turns nothing_told →
+    After w q (record { turns = turns; row = row; queued = queued }) []
+nothing_after w q turns row queued empty stands = (nothing_told, stands, sym (ap (told_with row) empty))
+
+pub empty_queue : (turns : GeneralView) (row : List ℕ) (queued : List Event) → queued ≡ [] → IsQueue (record { turns = turns; row = row; queued = queued })
+empty_queue turns row queued empty = λ over. subst Finishes (sym empty) tt
+
+pub popped_of : (inside old : GeneralQueue) → inside ≡ old → IsQueue inside → (event : Event) (others : List Event) → inside.queued ≡ event ∷ others →
+    HandsOut old (record { turns = inside.turns; row = inside.row; queued = others }) event
+popped_of inside old view queue event others is =
+    subst (λ (g : GeneralQueue). HandsOut g (record { turns = inside.turns; row = inside.row; queued = others }) event) view (popped inside event others queue is)
+
+module _ (inside old : GeneralQueue) (view : inside ≡ old) where
+  inside_empty : old.queued ≡ [] → inside.queued ≡ []
+  inside_empty empty = ap (λ (g : GeneralQueue). g.queued) view ∙ empty
+
+  pub turned_of : old.queued ≡ [] → (turns : GeneralView) (turn : GeneralTurn) →
+      ((w : WideDescription) (q : Query) (run : GeneralRun) → IsGeneralOf inside.turns w q → Stands w q inside.turns run → TellsNext w q turns run turn) →
+      (row : List ℕ) (queued : List Event) (event : Event) (others : List Event) → row ≡ turn_row turn → queued ≡ turn_events turn → queued ≡ event ∷ others →
+      IsSame inside.turns turns → left_of turns < left_of inside.turns → GoesOn turns turn → HandsOut old (record { turns = turns; row = row; queued = others }) event
+  turned_of empty turns turn tells row queued event others row_is are is same less goes =
+      subst (λ (g : GeneralQueue). HandsOut g (record { turns = turns; row = row; queued = others }) event) view
+      (turned inside (inside_empty empty) turns turn tells row event others row_is (sym are ∙ is) same less goes)
+
+  pub turned_queue : (turns : GeneralView) (turn : GeneralTurn) (row : List ℕ) (queued : List Event) (event : Event) (others : List Event) →
+      queued ≡ turn_events turn → queued ≡ event ∷ others → GoesOn turns turn → IsQueue (record { turns = turns; row = row; queued = others })
+  turned_queue turns turn row queued event others are is goes = λ over.
+      rest_finishes event others (subst Finishes (sym are ∙ is) (turn_finishes turns turn goes over))
+
+  pub fault_of : old.queued ≡ [] → (fault : Fault) → IsRightFault inside.turns fault → IsRightFaultBehind old fault
+  fault_of empty fault is = subst (λ (g : GeneralQueue). IsRightFaultBehind g fault) view (fault_behind inside (inside_empty empty) fault is)
+
+pub some_event : (turn : GeneralTurn) (queued : List Event) → queued ≡ turn_events turn → queued ≡ [] → ⊥
+some_event (kinds.NoHistory horizon) queued are none = nothing_first _ _ (sym are ∙ none)
+some_event (kinds.History horizon number row given) queued are none = nothing_first _ _ (sym are ∙ none)
+some_event (kinds.Ended ending) queued are none = nothing_first _ _ (sym are ∙ none)
+some_event (kinds.Spent horizon listed None given) queued are none = nothing_first _ _ (sym are ∙ none)
+some_event (kinds.Spent horizon listed (Some row) given) queued are none = nothing_first _ _ (sym are ∙ none)

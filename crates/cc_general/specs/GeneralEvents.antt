@@ -5,6 +5,7 @@ use Rattle.cc_defs.specs.declared.event.Ending.TheVariants as endings
 use Rattle.cc_defs.specs.declared.event.Event.{Event}
 use Rattle.cc_defs.specs.declared.event.Event.TheVariants as events
 use Rattle.cc_defs.specs.declared.event.Told.{Told}
+use Rattle.cc_defs.specs.declared.log.LogLine.{LogLine}
 use Rattle.cc_defs.specs.declared.log.LogLine.TheVariants as lines
 use Rattle.cc_defs.specs.declared.refusal.Fault.{Fault}
 use Rattle.cc_defs.specs.declared.refusal.Fault.TheVariants as faults
@@ -99,7 +100,7 @@ IsLess new old = (left_of new.turns < left_of old.turns) ⊎ ((new.turns ≡ old
 
 -- ---- a turn
 
-abbrev pub log_lines : List _ → List Event
+abbrev pub log_lines : List LogLine → List Event
 log_lines given = map events.Log given
 
 -- the events of a turn, and the row of its history or heading

@@ -80,8 +80,8 @@ impl<'a> General<'a> {
         })
     }
 
-    /// The row of the last event where it is a history: a value index for each position. Behind the heading of the rivals of a row,
-    /// and the lines of its section, it is this row.
+    /// The row of the last event where it is a history: a value index for each position. After the heading of the rivals of a
+    /// candidate, and after each line of its section, it is this candidate.
     pub fn row(&self) -> &[u32]
         ensures { result.now ≡ self.now.row }
     {
@@ -106,7 +106,7 @@ impl<'a> General<'a> {
     }
 
     /// The next event: a line of the log, a horizon without a history, a history, or the ending. Refuses as `GeneralTurns::next`
-    /// does, behind all events of the turns before. After the ending, as after an error, nothing more is told.
+    /// does, once all events of the turns before were handed out. After the ending, as after an error, nothing more is told.
     pub fn next(&mut self) -> Result<Event, Fault>
         requires { HasMoreEvents self.old }
         ensures event { (w : WideDescription) (q : Query) (given : List Told) →

@@ -106,7 +106,7 @@ fn end_at(word: EndWord) -> Halt
     }
 }
 
-/// The lines, and behind them the end line of a spent search.
+/// The lines, and after them the end line of a spent search.
 fn spent_lines(mut lines: Vec<LogLine>) -> Result<List<LogLine>, OutOfMemory>
     ensures { IfOk result (λ list. list ≡ lines.items ++ said.End words.Spent ∷ []) }
 {

@@ -4,3 +4,4 @@ mod Nothing
 mod Behind
 mod Right
 mod Positions
+mod TwoFluents

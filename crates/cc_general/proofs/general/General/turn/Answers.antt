@@ -1,0 +1,17 @@
+use Rattle.cc_general.specs.GeneralEvents.{IsRightFaultBehind}
+use Rattle.cc_general.proofs.HandingOut.{fault_of, some_event, turned_of, turned_queue}
+use Rattle.cc_general.proofs.Walking.{errs_with}
+use Rattle.cc_general.proofs.general.General.turn.Goals as goal
+
+pub returns-in_err-turn-clause-refused : goal.returns-in_err-turn-clause-refused
+returns-in_err-turn-clause-refused c =
+    errs_with (IsRightFaultBehind _) c.from_residual.result c.in_err-turn.field-0.0 c.from_residual.ensures.1
+    (fault_of _ _ c.self.view_is c.requires.told c.in_err-turn.field-0.0 c.in_err-turn.ensures.refused)
+
+pub unreachable-requires : goal.unreachable-requires
+unreachable-requires c = some_event c.in_ok-turn.turn _ c.queue_of.ensures.queue c.in-None.ensures.none
+
+pub returns-in-Some-clause-hands : goal.returns-in-Some-clause-hands
+returns-in-Some-clause-hands c =
+    turned_of _ _ c.self.view_is c.requires.told c.next.new.self c.in_ok-turn.turn c.in_ok-turn.ensures.tells _ _ c.in-Some.event _
+    c.queue_of.ensures.row c.queue_of.ensures.queue c.in-Some.ensures.some c.next.ensures.same c.in_ok-turn.ensures.less c.in_ok-turn.ensures.goes
