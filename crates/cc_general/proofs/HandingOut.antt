@@ -1,5 +1,5 @@
 -- One event after another is handed out of the turns of a run.
-use Rattle.std.proofs.Common.{◌≡◌, ◌≢◌, ◌⊎◌, ◌∙◌, refl, sym, ap, subst, ℕ, ◌<◌, List, [], ◌∷◌, ◌++◌, length, Some, None, inl, inr, append_assoc, append-nil, arith}
+use Rattle.std.proofs.Common.{◌≡◌, ◌≢◌, ◌⊎◌, ◌∙◌, refl, sym, ap, subst, ℕ, ◌<◌, List, [], ◌∷◌, ◌++◌, length, Some, None, Result, Ok, Err, IfOk, IfErr, OnOk, inl, inr, append_assoc, append-nil, arith}
 use Rattle.cc_defs.specs.declared.event.Event.{Event}
 use Rattle.cc_defs.specs.declared.event.Told.{Told}
 use Rattle.cc_defs.specs.declared.refusal.Fault.{Fault}
@@ -7,7 +7,7 @@ use Rattle.cc_defs.specs.declared.refusal.Fault.TheVariants as faults
 use Rattle.cc_defs.specs.Resolved.{Query}
 use Rattle.cc_general.specs.declared.turn.GeneralTurn.{GeneralTurn}
 use Rattle.cc_general.specs.declared.turn.GeneralTurn.TheVariants as kinds
-use Rattle.cc_general.specs.GeneralEvents.{After, Finishes, GeneralQueue, HandsOut, HasMoreEvents, IsEnd, IsQueue, IsRightFaultBehind, general_events, told_with, turn_events, turn_row, with_candidate}
+use Rattle.cc_general.specs.GeneralEvents.{After, Finishes, GeneralQueue, HandsOut, HasMoreEvents, IsEnd, IsLess, IsQueue, IsRightFaultBehind, general_events, told_with, turn_events, turn_row, with_candidate}
 use Rattle.cc_general.specs.GeneralRuns.{GeneralRun}
 use Rattle.cc_general.specs.Generals.{GeneralView, GoesOn, HasMore, IsGeneralOf, IsOver, IsRightFault, IsSame, Stands, TellsNext, left_of, nothing_told}
 use Rattle.cc_general.proofs.EventsGrow.{grows_behind, rest_finishes, turn_finishes}
@@ -117,3 +117,36 @@ some_event (kinds.History horizon number row given) queued are none = nothing_fi
 some_event (kinds.Ended ending) queued are none = nothing_first _ _ (sym are ∙ none)
 some_event (kinds.Spent horizon listed None given) queued are none = nothing_first _ _ (sym are ∙ none)
 some_event (kinds.Spent horizon listed (Some row) given) queued are none = nothing_first _ _ (sym are ∙ none)
+
+-- ---- what a turn gives is given by the call around it
+
+-- where nothing is queued any more, as nothing was
+pub emptied : (inside old : GeneralQueue) → inside ≡ old → (queued : List Event) → inside.queued ≡ [] → queued ≡ [] →
+    record { turns = inside.turns; row = inside.row; queued = queued } ≡ old
+emptied inside old view queued was is =
+    (λ i. record { turns = inside.turns; row = inside.row; queued = (is ∙ sym was) i }) ∙ view
+
+module _ (mid old new : GeneralQueue) (same : mid ≡ old) where
+  pub given_tells : (r : Result Event Fault) → IfOk r (HandsOut mid new) → (w : WideDescription) (q : Query) (given : List Told) →
+      IsGeneralOf old.turns w q → After w q old given → IfOk r (λ event. After w q new (given ++ with_candidate event new.row ∷ []))
+  given_tells (Ok event) hands w q given of after = (subst (λ (g : GeneralQueue). HandsOut g new event) same hands).tells w q given of after
+  given_tells (Err fault) hands w q given of after = tt
+
+  pub given_same : (r : Result Event Fault) → IfOk r (HandsOut mid new) → OnOk r (IsSame old.turns new.turns)
+  given_same (Ok event) hands = (subst (λ (g : GeneralQueue). HandsOut g new event) same hands).same
+  given_same (Err fault) hands = tt
+
+  pub given_more : (r : Result Event Fault) → IfOk r (HandsOut mid new) → IfOk r (λ event. (IsEnd event → ⊥) → HasMoreEvents new)
+  given_more (Ok event) hands = hands.more
+  given_more (Err fault) hands = tt
+
+  pub given_less : (r : Result Event Fault) → IfOk r (HandsOut mid new) → OnOk r (IsLess new old)
+  given_less (Ok event) hands = (subst (λ (g : GeneralQueue). HandsOut g new event) same hands).less
+  given_less (Err fault) hands = tt
+
+  pub given_refused : (r : Result Event Fault) → IfErr r (IsRightFaultBehind mid) → IfErr r (IsRightFaultBehind old)
+  given_refused r refused = subst (λ (g : GeneralQueue). IfErr r (IsRightFaultBehind g)) same refused
+
+-- who has more events and none queued has more turns
+pub more_turns : (inside old : GeneralQueue) → inside ≡ old → HasMoreEvents old → inside.queued ≡ [] → HasMore inside.turns
+more_turns inside old view more empty = elim (subst HasMoreEvents (sym view) more) [ | inl some ↦ absurd (some empty) | inr turns ↦ turns ]

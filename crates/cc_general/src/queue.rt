@@ -70,6 +70,7 @@ impl Queue {
     /// The next event.
     pub(crate) fn next(&mut self) -> Option<Event>
         ensures none { IsNone result → self.old ≡ [] }
+        ensures rest { IsNone result → self.new ≡ [] }
         ensures some { IfSome result (λ event. self.old ≡ event ∷ self.new) }
     {
         if let Some(line) = self.heading.take() {

@@ -1,3 +1,4 @@
+use Rattle.std.proofs.Common.{refl}
 use Rattle.cc_general.specs.GeneralEvents.{IsRightFaultBehind}
 use Rattle.cc_general.proofs.HandingOut.{fault_of, some_event, turned_of, turned_queue}
 use Rattle.cc_general.proofs.Walking.{errs_with}
@@ -9,9 +10,15 @@ returns-in_err-turn-clause-refused c =
     (fault_of _ _ c.self.view_is c.requires.told c.in_err-turn.field-0.0 c.in_err-turn.ensures.refused)
 
 pub unreachable-requires : goal.unreachable-requires
-unreachable-requires c = some_event c.in_ok-turn.turn _ c.queue_of.ensures.queue c.in-None.ensures.none
+unreachable-requires c = some_event c.in_ok-turn.turn _ c.queue_of-row.ensures.queue (c.in-None.ensures.none refl)
 
-pub returns-in-Some-clause-hands : goal.returns-in-Some-clause-hands
-returns-in-Some-clause-hands c =
-    turned_of _ _ c.self.view_is c.requires.told c.next.new.self c.in_ok-turn.turn c.in_ok-turn.ensures.tells _ _ c.in-Some.event _
-    c.queue_of.ensures.row c.queue_of.ensures.queue c.in-Some.ensures.some c.next.ensures.same c.in_ok-turn.ensures.less c.in_ok-turn.ensures.goes
+pub invariant_of-self-2 : goal.invariant_of-self-2
+invariant_of-self-2 c =
+    turned_queue _ _ c.self.view_is c.next.new.self c.in_ok-turn.turn c.queue_of-row.result.0 c.queue_of-row.result.1 c.in-Some.event c.next-2.new.self
+    c.queue_of-row.ensures.queue c.in-Some.ensures.some c.in_ok-turn.ensures.goes
+
+pub returns-clause-hands : goal.returns-clause-hands
+returns-clause-hands c =
+    turned_of _ _ c.self.view_is c.requires.told c.next.new.self c.in_ok-turn.turn c.in_ok-turn.ensures.tells
+    c.queue_of-row.result.0 c.queue_of-row.result.1 c.in-Some.event c.next-2.new.self
+    c.queue_of-row.ensures.row c.queue_of-row.ensures.queue c.in-Some.ensures.some c.in_ok-turn.ensures.same c.in_ok-turn.ensures.less c.in_ok-turn.ensures.goes
