@@ -1,5 +1,5 @@
 -- The events of a run over candidates grow by those of each turn.
-use Rattle.std.proofs.Common.{◌≡◌, ◌≢◌, ◌∙◌, refl, sym, ap, subst, ℕ, zero, suc, ◌+◌, ◌<◌, true, false, List, [], ◌∷◌, ◌++◌, length, map, Option, Some, None, inl, inr, append_assoc, append-nil, arith}
+use Rattle.std.proofs.Common.{◌≡◌, ◌≢◌, ◌∙◌, refl, sym, ap, subst, ℕ, zero, suc, ◌+◌, true, false, List, [], ◌∷◌, ◌++◌, length, map, Option, Some, None, append_assoc, append-nil, arith}
 use Rattle.std.specs.Prelude.{IsNone}
 use Rattle.std.proofs.lemmas.List.{map-append}
 use Rattle.cc_defs.specs.declared.event.Ending.TheVariants as endings
@@ -16,7 +16,7 @@ use Rattle.cc_general.specs.declared.turn.GeneralTurn.TheVariants as turns
 use Rattle.cc_general.specs.GeneralEvents.{Finishes, IsEnd, ended_events, general_events, log_lines, rivals_events, shown_events, spent_events, told_with, turn_events, turn_row, with_candidate}
 use Rattle.cc_general.specs.GeneralRuns.{GeneralEnding, Complete, Asked, NoneAtAll, SpentAmong, SpentOver, GeneralRun, Shown}
 use Rattle.cc_general.specs.Generals.{GeneralView, GoesOn, GoesOnBy, IsOver, IsSpentWith}
-use Rattle.cc_general.specs.GeneralTold.{ending_of, none_told}
+use Rattle.cc_general.specs.GeneralTold.{none_told}
 use Rattle.cc_general.specs.Accepted.{IsUnspentEnding}
 use Rattle.cc_query.specs.Parts.{section_lines, step_line}
 

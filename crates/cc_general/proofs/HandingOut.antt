@@ -1,5 +1,5 @@
 -- One event after another is handed out of the turns of a run.
-use Rattle.std.proofs.Common.{◌≡◌, ◌≢◌, ◌⊎◌, ◌∙◌, refl, sym, ap, subst, ℕ, ◌<◌, List, [], ◌∷◌, ◌++◌, length, Some, None, Result, Ok, Err, IfOk, IfErr, OnOk, inl, inr, append_assoc, append-nil, arith}
+use Rattle.std.proofs.Common.{◌≡◌, ◌≢◌, ◌⊎◌, ◌∙◌, refl, sym, ap, subst, ℕ, ◌<◌, List, [], ◌∷◌, ◌++◌, Some, None, Result, Ok, Err, IfOk, IfErr, OnOk, inl, inr, append_assoc, append-nil, arith}
 use Rattle.cc_defs.specs.declared.event.Event.{Event}
 use Rattle.cc_defs.specs.declared.event.Told.{Told}
 use Rattle.cc_defs.specs.declared.refusal.Fault.{Fault}
