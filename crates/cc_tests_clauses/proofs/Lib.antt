@@ -4,4 +4,3 @@ mod Nothing
 mod Behind
 mod Right
 mod Positions
-mod TwoFluents

@@ -17,8 +17,6 @@ mod entries;
 #[cfg(test)]
 mod forms;
 #[cfg(test)]
-mod general;
-#[cfg(test)]
 mod kernel;
 #[cfg(test)]
 mod lines;

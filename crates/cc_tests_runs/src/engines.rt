@@ -12,12 +12,13 @@ ghost use Rattle.cc_theory.specs.Theories.{AreLawsFor};
 use crate::runs::{TWO_FLUENTS, described_text, one_file};
 use bumpalo::Bump;
 use cc_arena::{GroundQuery, Laws, Terms};
-use cc_defs::{Fault, Node, Nums, Sig};
+use cc_defs::{Event, Fault, LogLine, Node, Nums, Sig};
 use cc_describe::{DescribeStop, Described, DescribedWide, Heads, describe_with};
-use cc_general::{General, GeneralEvent, GeneralVerdict, check_general};
+use cc_general::{General, GeneralVerdict, check_general};
 use cc_ground::laws::declared_have_own_values;
 use cc_list::{prepare, query_asked};
 use cc_ports::MemoryDesk;
+use cc_query::Ask;
 use cc_sure::{Answer, Sure, SureEvent, SureVerdict, check_sure};
 use cc_wide::WideGround;
 use cc_wide_ground::ground_wide;
@@ -217,19 +218,15 @@ fn heads_of_any_form_are_ground(rt: HostRuntime) -> Result<(), Fail> {
     Ok(())
 }
 
-// Whether this is the first history of horizon 0.
-fn is_first(event: &GeneralEvent, wanted: &[u32]) -> bool {
+// Whether this is the heading of a section of horizon 0.
+fn is_heading(event: &Event) -> bool {
     match event {
-        GeneralEvent::History {
-            horizon,
-            number,
-            row,
-            lines: _,
-        } => *horizon == 0 && *number == 1 && row.items() == wanted,
+        Event::Log(LogLine::Section { horizon, .. }) => *horizon == 0,
         _ => false,
     }
 }
 
+// Whether the first section is that of this candidate.
 fn general_begins_over(
     alloc: Global,
     sig: &Sig,
@@ -244,8 +241,14 @@ fn general_begins_over(
         horizon ≤ query.now.hi → IsQueryAt sig.now horizon (plain_ground_query query.now) }
     requires claim { IsNone query.now.claim }
 {
-    let mut general = General::new(alloc, sig, laws, query, None, 200_000);
-    Ok(is_first(&general.next()?, row))
+    let ask = Ask {
+        count: None,
+        budget: 200_000,
+        after: None,
+    };
+    let mut general = General::new(alloc, sig, laws, query, ask)?;
+    let event = general.next()?;
+    Ok(is_heading(&event) && general.row() == row)
 }
 
 fn general_begins_with(alloc: Global, said: &DescribedWide, row: &[u32]) -> Result<bool, Fault>
