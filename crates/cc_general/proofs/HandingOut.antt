@@ -149,4 +149,4 @@ module _ (mid old new : GeneralQueue) (same : mid ≡ old) where
 
 -- who has more events and none queued has more turns
 pub more_turns : (inside old : GeneralQueue) → inside ≡ old → HasMoreEvents old → inside.queued ≡ [] → HasMore inside.turns
-more_turns inside old view more empty = elim (subst HasMoreEvents (sym view) more) [ | inl some ↦ absurd (some empty) | inr turns ↦ turns ]
+more_turns inside old view more empty = elim (subst HasMoreEvents (sym view) more) [ inl some ↦ absurd (some empty) | inr turns ↦ turns ]
