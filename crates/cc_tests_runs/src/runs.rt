@@ -211,14 +211,14 @@ fn a_folder_is_no_description(rt: HostRuntime) -> Result<(), Fail> {
 fn a_run_that_is_cut_short_leaves_the_log(rt: HostRuntime) -> Result<(), Fail> {
     let alloc = rt.alloc();
     std::fs::write(&rt, "f.cc", TWO_FLUENTS)?;
-    std::fs::write(&rt, "l", "old")?;
-    let words = all_words(alloc, &["--log", "l", "f.cc"])?;
+    std::fs::write(&rt, "cut", "old")?;
+    let words = all_words(alloc, &["--log", "cut", "f.cc"])?;
     let mut desk = RealDesk::new(rt.clone()?);
     assert!(rt; run(alloc, &words, &mut desk) == Status::Right);
     assert!(rt; end_run(&mut desk, Status::OutOfMemory) == Status::OutOfMemory);
-    let log = std::fs::read_to_string(&rt, "l")?;
+    let log = std::fs::read_to_string(&rt, "cut")?;
     assert!(rt; log.as_str() == "old");
-    let unfinished = std::fs::read_to_string(&rt, "l.unfinished")?;
+    let unfinished = std::fs::read_to_string(&rt, "cut.unfinished")?;
     assert!(rt; unfinished.as_str().starts_with("ccalc log 1\n"));
     Ok(())
 }
