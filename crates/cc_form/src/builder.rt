@@ -117,14 +117,14 @@ impl Builder {
     }
 
     /// Adds a clause at the end: each literal once, ascending by variable; one with a variable in both signs is left out.
-    pub fn clause(&mut self, literals: &[Lit]) -> Result<(), Fault>
-        requires { AllByRecursion (IsLiteralOver self.old.variables) literals.now }
-        ensures built { OnOk result (self.new ≡ clause_behind self.old literals.now) }
-        ensures within { OnOk result (axioms_refusal (clause_behind self.old literals.now) ≡ None) }
+    pub fn clause(&mut self, lits: &[Lit]) -> Result<(), Fault>
+        requires { AllByRecursion (IsLiteralOver self.old.variables) lits.now }
+        ensures built { OnOk result (self.new ≡ clause_behind self.old lits.now) }
+        ensures within { OnOk result (axioms_refusal (clause_behind self.old lits.now) ≡ None) }
         ensures refused { IfErr result
-            (IsRefusedBy (axioms_refusal (clause_behind self.old literals.now))) }
+            (IsRefusedBy (axioms_refusal (clause_behind self.old lits.now))) }
     {
-        let written = fault_of(write_all(&mut self.writer.store, literals));
+        let written = fault_of(write_all(&mut self.writer.store, lits));
         let fits = self.writer.within(written);
         emptied(&mut self.writer, self.alloc, fits)
     }

@@ -13,7 +13,7 @@ use Rattle.cc_form.proofs.builder.Builder.clause.Goals as goal
 pub invariant_of-self : goal.invariant_of-self
 invariant_of-self c =
     let w = c.self.inside.writer in
-    let literals = c.args.literals.now in
+    let literals = c.args.lits.now in
     let made = c.fault_of-written in
     let new : Writer = record { places = w.places; last = w.last; stack = w.stack; store = c.write_all.new.store } in
     let fits = c.within-fits in
@@ -25,7 +25,7 @@ invariant_of-self c =
 pub returns-clause-built : goal.returns-clause-built
 returns-clause-built c =
     let w = c.self.inside.writer in
-    let literals = c.args.literals.now in
+    let literals = c.args.lits.now in
     let made = c.fault_of-written in
     let new : Writer = record { places = w.places; last = w.last; stack = w.stack; store = c.write_all.new.store } in
     let fits = c.within-fits in
@@ -40,7 +40,7 @@ returns-clause-built c =
 pub returns-clause-within : goal.returns-clause-within
 returns-clause-within c =
     let w = c.self.inside.writer in
-    let literals = c.args.literals.now in
+    let literals = c.args.lits.now in
     let made = c.fault_of-written in
     let new : Writer = record { places = w.places; last = w.last; stack = w.stack; store = c.write_all.new.store } in
     let fits = c.within-fits in
@@ -54,7 +54,7 @@ returns-clause-within c =
 pub returns-clause-refused : goal.returns-clause-refused
 returns-clause-refused c =
     let w = c.self.inside.writer in
-    let literals = c.args.literals.now in
+    let literals = c.args.lits.now in
     let made = c.fault_of-written in
     let new : Writer = record { places = w.places; last = w.last; stack = w.stack; store = c.write_all.new.store } in
     let fits = c.within-fits in
