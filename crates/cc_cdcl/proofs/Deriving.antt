@@ -11,7 +11,7 @@ use Rattle.cc_kernel.specs.Kernels.{Entry, KernelView, ClashesWith, IsFinished, 
 use Rattle.cc_trail.specs.declared.entries.Step.{Step}
 use Rattle.cc_trail.specs.EntryParts.{literal_of_step}
 use Rattle.cc_trail.specs.Steps.{AreApart, AreSteps, step_of, steps_to, values_of}
-use Rattle.cc_trail.specs.Trails.{TrailView, Fits, FitsClauses, IsAttached, IsAttachedOver, IsFailedClause, IsMild, IsPropagatedAt, IsSettled, back_at, reason_of_step}
+use Rattle.cc_trail.specs.Trails.{TrailView, Fits, FitsClauses, IsAttached, IsAttachedOver, IsFailedClause, KeepsSettled, IsPropagatedAt, IsSettled, back_at, reason_of_step}
 use Rattle.cc_trail.specs.Watches.{AreReasoned, IsFalseBy}
 use Rattle.cc_cdcl.specs.Analysis.{IsFinal, IsLearned, IsUnfinished, IsWalking, MayResolve, OpenLevels, highest_but, level_count_in}
 use Rattle.cc_cdcl.specs.Derivations.{IsBackOver, IsDerived, IsDeriving, Learns}
@@ -427,7 +427,7 @@ module _ (trail : TrailView) (old staged new : KernelView) (are : AreSteps trail
     pub back_low : back ≤ trail.level_count
     back_low = let lower = learned_there.lower in omega arith
 
-    pub back_mild : (law : LearnedIsEarned) → IsSettled trail old → IsMild (steps_to back trail.steps) back derived.derivation.clause
+    pub back_mild : (law : LearnedIsEarned) → IsSettled trail old → KeepsSettled (steps_to back trail.steps) back derived.derivation.clause
     back_mild law settled =
         (law trail.variables trail.steps trail.level_count (clauses_of old) derived.derivation.clause back are settled learned_there).1
 
@@ -445,7 +445,7 @@ attached_alone old new attached = record {
 
 pub attached_back : (law : AddingKeepsSettled) (old back new : TrailView) (before after : KernelView) (clause : List Literal) (level : ℕ) → level ≤ old.level_count →
     back ≡ back_at old level → old.attached ≡ length before.entries → (length after.entries ≡ length before.entries + 1) → clauses_of after ≡ clauses_of before ++ clause ∷ [] →
-    IsMild (steps_to level old.steps) level clause → IsSettled back before → IsAttachedOver back new → Fits new after →
+    KeepsSettled (steps_to level old.steps) level clause → IsSettled back before → IsAttachedOver back new → Fits new after →
     ((other : KernelView) → IsSettled back other → IsSettled new other) → IsBackOver old new after
 attached_back law old back new before after clause level low back_is all longer clauses_are mild settled attached fits keeps = record {
   back = level;
@@ -458,5 +458,5 @@ attached_back law old back new before after clause level low back_is all longer 
   all = let one = attached.attached in let same = ap (λ (t : TrailView). t.attached) back_is in omega arith;
   fits = fits;
   settled = keeps after (law back before after clause clauses_are
-      (subst (λ (t : TrailView). IsMild t.steps t.level_count clause) (sym back_is) mild) settled);
+      (subst (λ (t : TrailView). KeepsSettled t.steps t.level_count clause) (sym back_is) mild) settled);
 }

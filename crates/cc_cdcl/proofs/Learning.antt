@@ -6,7 +6,7 @@ use Rattle.cc_defs.specs.Assignments.{IsFailed, IsFalseIn}
 use Rattle.cc_defs.specs.Clauses.{Literal, IsIn}
 use Rattle.cc_trail.specs.declared.entries.Step.{Step}
 use Rattle.cc_trail.specs.Steps.{AreApart, AreSteps, step_of, steps_to, values_of, values_to}
-use Rattle.cc_trail.specs.Trails.{IsSettledOver, IsMild, level_of_step}
+use Rattle.cc_trail.specs.Trails.{IsSettledOver, KeepsSettled, level_of_step}
 use Rattle.cc_cdcl.specs.Analysis.{HasTwoOf, IsLearned, level_of}
 use Rattle.cc_cdcl.specs.Laws.{FalseClauseHasTwo, LearnedIsEarned}
 use Rattle.cc_cdcl.proofs.Levels.{has_step, level_most, none_back, to_higher, to_lower}
@@ -52,7 +52,7 @@ module _ (variables : ℕ) (steps : List Step) (level_count : ℕ) (are : AreSte
 -- ---- clauses that keep a trail settled, once the levels above one are gone
 
 module _ (steps : List Step) (apart : AreApart steps) (top : ℕ) (clause : List Literal) where
-  learned_mild : (back : ℕ) → IsLearned steps top clause back → IsMild (steps_to back steps) back clause
+  learned_mild : (back : ℕ) → IsLearned steps top clause back → KeepsSettled (steps_to back steps) back clause
   learned_mild back is level low = elim (is.reached) [
     | inl zero_is ↦ absurd (omega arith)
     | inr (other, inside, at) ↦ inr (

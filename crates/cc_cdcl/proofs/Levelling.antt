@@ -7,7 +7,7 @@ use Rattle.cc_defs.specs.Assignments.{IsFailed}
 use Rattle.cc_defs.specs.Clauses.{Literal, IsBefore, IsClause, IsOver}
 use Rattle.cc_trail.specs.declared.entries.Step.{Step}
 use Rattle.cc_trail.specs.Steps.{AreApart, AreSteps, steps_to, values_of, values_to}
-use Rattle.cc_trail.specs.Trails.{IsMild}
+use Rattle.cc_trail.specs.Trails.{KeepsSettled}
 use Rattle.cc_cdcl.specs.Analysis.{HasOneOf, IsFinal, IsUnfinished, first_level, is_level, level_count_in, level_of, level_or_zero, second_level}
 use Rattle.cc_cdcl.proofs.Counts.{at_level, head_before, none_of, not_before_itself, rest_is, two_of, up_to_last}
 use Rattle.cc_cdcl.proofs.Denials.{eqb_itself}
@@ -113,7 +113,7 @@ second_low variables steps level_count clause are is failed back back_is = elim 
 
 -- it leaves two literals without a value up to each level below
 pub second_mild : (steps : List Step) → AreApart steps → (clause : List Literal) → IsClause clause → (back : ℕ) → back ≡ second_level steps clause →
-    IsMild (steps_to back steps) back clause
+    KeepsSettled (steps_to back steps) back clause
 second_mild steps apart clause is back back_is level low =
     let (one, two, differ, one_in, two_in, one_up, two_up) = two_up steps (suc level) (omega arith) clause is (omega arith) in
     inr (one, two, differ, one_in, two_in, open_at one one_up, open_at two two_up)

@@ -9,7 +9,7 @@ use Rattle.cc_defs.specs.Rows.{IsRow}
 use Rattle.cc_defs.specs.Sections.{row_denial}
 use Rattle.cc_trail.specs.declared.entries.Step.{Step}
 use Rattle.cc_trail.specs.Steps.{AreSteps, steps_to, values_of}
-use Rattle.cc_trail.specs.Trails.{TrailView, IsMild, IsSettledOver, decided}
+use Rattle.cc_trail.specs.Trails.{TrailView, KeepsSettled, IsSettledOver, decided}
 use Rattle.cc_trail.specs.Watches.{AreReasoned, IsFalseBy}
 use Rattle.cc_cdcl.specs.Analysis.{AreFalseBy, HasTwoOf, IsLearned}
 use Rattle.cc_cdcl.specs.Choices.{AreChosen, IsNext}
@@ -85,4 +85,4 @@ OtherIsFalse = (front : List Step) (last : Step) (clause : List Literal) → Are
 abbrev pub LearnedIsEarned : Type 0
 LearnedIsEarned = (variables : ℕ) (steps : List Step) (level_count : ℕ) (clauses : List (List Literal)) (clause : List Literal) (back : ℕ) →
     AreSteps variables steps level_count → IsSettledOver steps level_count clauses → IsLearned steps level_count clause back →
-    IsEarned clauses clause × IsMild (steps_to back steps) back clause
+    IsEarned clauses clause × KeepsSettled (steps_to back steps) back clause

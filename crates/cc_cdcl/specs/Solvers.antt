@@ -99,14 +99,14 @@ pub record IsStopped (old new : SolverView) : Type 0 where
   pub sizes : new.sizes ≡ old.sizes
 
 -- after want of memory in the search: the clauses are those from before, or one derived clause more
-abbrev pub IsBroken : SolverView → SolverView → Type 0
-IsBroken old new =
+abbrev pub IsLeftByFailure : SolverView → SolverView → Type 0
+IsLeftByFailure old new =
     IsStopped old new × (new.kernel.variables ≡ old.kernel.variables)
     × ((new.kernel.entries ≡ old.kernel.entries) ⊎ ((clause : List Literal) × AddsDerived old.kernel new.kernel clause))
 
 -- after want of memory while a row was denied: the clauses are those from before, or its denial more
-abbrev pub IsBrokenBlock : SolverView → SolverView → Type 0
-IsBrokenBlock old new =
+abbrev pub IsLeftByFailedBlock : SolverView → SolverView → Type 0
+IsLeftByFailedBlock old new =
     IsStopped old new × (new.kernel.variables ≡ old.kernel.variables)
     × ((new.kernel.entries ≡ old.kernel.entries)
     ⊎ ((row : List ℕ) × (old.standing ≡ Found row) × AddsBlock old.kernel new.kernel (row_denial old.sizes row)))

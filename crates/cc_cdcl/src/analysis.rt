@@ -5,7 +5,7 @@ ghost use Rattle.cc_defs.specs.Assignments.{IsFailed};
 ghost use Rattle.cc_defs.specs.Clauses.{Literal, IsClause, IsOver, opposite};
 ghost use Rattle.cc_kernel.specs.Kernels.{ClashesWith, IsStepped, IsThere, added, clauses_of};
 ghost use Rattle.cc_trail.specs.Steps.{AreSteps, step_of, steps_to, values_of};
-ghost use Rattle.cc_trail.specs.Trails.{Fits, IsFailedClause, IsMild, IsSettled, reason_of_step};
+ghost use Rattle.cc_trail.specs.Trails.{Fits, IsFailedClause, KeepsSettled, IsSettled, reason_of_step};
 ghost use Rattle.cc_cdcl.specs.Analysis.{IsFinal, IsUnfinished, IsWalking, OpenLevels, highest_but, is_level, is_level_below, level_but, level_count_in, level_of, level_or_zero, second_level};
 ghost use Rattle.cc_cdcl.specs.Brought.{IsCounted, fresh_of, has_literal, is_fresh};
 ghost use Rattle.cc_cdcl.specs.Derivations.{IsBackOver, IsDerived, IsDeriving, IsShortening, Learns};
@@ -464,7 +464,7 @@ fn block_level(trail: &Trail, clause: &[Lit]) -> u32
     requires failed { IsFailed (values_of trail.now.steps) clause.now }
     ensures low { result ≤ trail.now.level_count }
     ensures steps { AreSteps trail.now.variables trail.now.steps trail.now.level_count }
-    ensures mild { IsMild (steps_to result trail.now.steps) result clause.now }
+    ensures mild { KeepsSettled (steps_to result trail.now.steps) result clause.now }
 {
     let _level = trail.level_count();
     second_level(trail, clause)

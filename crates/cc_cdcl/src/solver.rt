@@ -8,7 +8,7 @@ ghost use Rattle.cc_kernel.specs.Kernels.{AreAxioms, added, derived_count};
 ghost use Rattle.cc_trail.specs.Steps.{values_of};
 ghost use Rattle.cc_cdcl.specs.LeastRows.{row_of};
 ghost use Rattle.cc_cdcl.specs.Sets.{assignment_of};
-ghost use Rattle.cc_cdcl.specs.Solvers.{AreEarned, HasPositions, IsBroken, IsBrokenBlock, IsStep, Ready, Found, axiom_clauses};
+ghost use Rattle.cc_cdcl.specs.Solvers.{AreEarned, HasPositions, IsLeftByFailure, IsLeftByFailedBlock, IsStep, Ready, Found, axiom_clauses};
 
 use crate::analysis::{block, learn, refute};
 use crate::choice::{Cursor, true_value};
@@ -156,7 +156,7 @@ impl Parts {
         ensures step { IfOk result (λ step. IsStep budget self.old self.new step) }
         ensures enough { IfOk result (λ step. (opens : ℕ) → HasOpen self.old.kernel.variables
             (axiom_clauses self.old.kernel) opens → 3 ^ opens ≤ budget → step ≢ Step.Spent) }
-        ensures broken { OnErr result (IsBroken self.old self.new) }
+        ensures broken { OnErr result (IsLeftByFailure self.old self.new) }
     {
         earned_lines_are_few();
         least_row_is_found();
@@ -224,7 +224,7 @@ impl Parts {
                   (row_denial self.old.sizes row) Origin.Block;
               standing = Ready;
             }) }
-        ensures broken { OnErr result (IsBrokenBlock self.old self.new) }
+        ensures broken { OnErr result (IsLeftByFailedBlock self.old self.new) }
     {
         self.state = State::Failed;
         let _variables = self.kernel.variables();
@@ -265,7 +265,7 @@ impl Solver {
         ensures step { IfOk result (λ step. IsStep budget self.old self.new step) }
         ensures enough { IfOk result (λ step. (opens : ℕ) → HasOpen self.old.kernel.variables
             (axiom_clauses self.old.kernel) opens → 3 ^ opens ≤ budget → step ≢ Step.Spent) }
-        ensures broken { OnErr result (IsBroken self.old self.new) }
+        ensures broken { OnErr result (IsLeftByFailure self.old self.new) }
     {
         self.parts.next(budget)
     }
@@ -289,7 +289,7 @@ impl Solver {
                   (row_denial self.old.sizes row) Origin.Block;
               standing = Ready;
             }) }
-        ensures broken { OnErr result (IsBrokenBlock self.old self.new) }
+        ensures broken { OnErr result (IsLeftByFailedBlock self.old self.new) }
     {
         self.parts.block_row()
     }

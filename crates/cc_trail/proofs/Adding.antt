@@ -9,7 +9,7 @@ use Rattle.cc_trail.specs.declared.entries.Step.{Step}
 use Rattle.cc_trail.specs.Steps.{values_to}
 use Rattle.cc_trail.specs.Watches.{AreReasonedAfter}
 use Rattle.cc_trail.specs.Pairs.{IsPair}
-use Rattle.cc_trail.specs.Trails.{TrailView, FitsClauses, Fits, IsCovered, IsMild, IsSettledOver}
+use Rattle.cc_trail.specs.Trails.{TrailView, FitsClauses, Fits, IsCovered, KeepsSettled, IsSettledOver}
 
 pub get_append : {X : Type 0} (xs ys : List X) (k : ℕ) (x : X) → slice_get xs k ≡ Some x → slice_get (xs ++ ys) k ≡ Some x
 get_append [] ys k x is = cc
@@ -136,7 +136,7 @@ closed_added values clauses clause spares closed = record {
 }
 
 pub settled_added : (steps : List Step) (level_count : ℕ) (old new : List (List Literal)) (clause : List Literal) → new ≡ old ++ clause ∷ [] →
-    IsMild steps level_count clause → IsSettledOver steps level_count old → IsSettledOver steps level_count new
+    KeepsSettled steps level_count clause → IsSettledOver steps level_count old → IsSettledOver steps level_count new
 settled_added steps level_count old new clause is mild settled level low =
     subst (λ (clauses : List (List Literal)). IsClosed (values_to level steps) clauses) (sym is)
     (closed_added (values_to level steps) old clause (mild level low) (settled level low))

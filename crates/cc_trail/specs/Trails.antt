@@ -79,8 +79,8 @@ abbrev pub reason_of_step : Step → Option ℕ
 reason_of_step step = step.reason
 
 -- At each level below the last one a clause has a literal that is true up to it, or two that have no value.
-abbrev pub IsMild : List Step → ℕ → List Literal → Type 0
-IsMild steps level_count clause = (level : ℕ) → level < level_count →
+abbrev pub KeepsSettled : List Step → ℕ → List Literal → Type 0
+KeepsSettled steps level_count clause = (level : ℕ) → level < level_count →
     ((literal : Literal) × Contains clause literal × IsTrueIn (values_to level steps) literal) ⊎
     ((one : Literal) × (two : Literal) × (one ≢ two) × Contains clause one × Contains clause two ×
     HasNoValue (values_to level steps) one × HasNoValue (values_to level steps) two)
