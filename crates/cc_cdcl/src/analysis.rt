@@ -154,6 +154,7 @@ fn step_counted(
         IsCounted trail.now.steps trail.now.level_count kernel.new now) }
     ensures kept { OnErr result (kernel.new ≡ kernel.old) }
 {
+    // Opens the kernel's invariant for the proof.
     let _variables = kernel.variables();
     let level = trail.level_count();
     let brought = brought(trail, kernel, level, pivot, kernel.clause(id));
@@ -171,6 +172,7 @@ fn is_final(trail: &Trail, kernel: &Kernel, held: usize) -> bool
         MatchBool result (IsFinal trail.now.steps trail.now.level_count clause)
         (IsUnfinished trail.now.steps trail.now.level_count clause) }
 {
+    // Opens the kernel's invariant for the proof.
     let _variables = kernel.variables();
     let level = trail.level_count();
     if level == 0 {
@@ -416,6 +418,7 @@ pub fn refute(trail: &Trail, kernel: &mut Kernel, id: u32) -> Result<(), OutOfMe
     ensures kept { OnErr result (KeepsEntries kernel.old kernel.new) }
 {
     derive_first(trail, kernel, id)?;
+    // Opens the trail's invariant for the proof.
     let _level = trail.level_count();
     kernel.finish()?;
     Ok(())
@@ -466,6 +469,7 @@ fn block_level(trail: &Trail, clause: &[Lit]) -> u32
     ensures steps { AreSteps trail.now.variables trail.now.steps trail.now.level_count }
     ensures mild { KeepsSettled (steps_to result trail.now.steps) result clause.now }
 {
+    // Opens the trail's invariant for the proof.
     let _level = trail.level_count();
     second_level(trail, clause)
 }

@@ -39,6 +39,7 @@ fn decide(trail: &mut Trail, cursors: &mut [Cursor], cursor: Cursor, lit: Lit, s
     ensures cursors { AreCursors
         sizes.now trail.new.variables trail.new.steps trail.new.level_count cursors.new }
 {
+    // A slice has no more items than memory has bytes, which the proof needs.
     let _count = sizes.len();
     cursors[trail.level_count() as usize] = cursor;
     trail.decide(lit);
@@ -99,10 +100,12 @@ fn probe_round(trail: &mut Trail, probe: &mut Probe, kernel: &Kernel) -> Round
         Some(id) => return Round::Conflict(id),
         None => {},
     }
+    // Opens the trail's invariant for the proof.
     let _before = trail.level_count();
     match probe.choose(trail, kernel.variables()) {
         Some(lit) => {
             trail.decide(lit);
+            // Opens the trail's invariant for the proof.
             let _after = trail.level_count();
             Round::Decided
         },
@@ -133,6 +136,7 @@ fn begin_listing(trail: &mut Trail, cursors: &mut [Cursor])
     ensures { (sizes : List ℕ) (kernel : KernelView) →
         IsTrailOf kernel trail.old → IsSearching sizes kernel trail.new cursors.new }
 {
+    // Opens the trail's invariant for the proof.
     let _level = trail.level_count();
     trail.back_to(0);
     cursors[0] = Cursor::start();

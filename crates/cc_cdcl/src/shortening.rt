@@ -43,6 +43,7 @@ impl Shortening {
         requires fits { Fits trail.now kernel.now }
         requires staged { IsSome kernel.now.staged }
     {
+        // Opens the kernel's invariant for the proof.
         let _variables = kernel.variables();
         if kernel.stages(lit) {
             self.places.put(trail.place(lit.variable()));

@@ -98,6 +98,7 @@ fn write_row(trail: &Trail, sizes: &[u32], row: &mut [u32])
     requires sizes { sum sizes.now ≤ trail.now.variables }
     ensures { row.new ≡ row_of sizes.now (assignment_of (values_of trail.now.steps)) }
 {
+    // Opens the trail's invariant for the proof.
     let _level = trail.level_count();
     let mut first = 1;
     for index in 0..sizes.len() {
@@ -209,6 +210,7 @@ impl Parts {
         requires found { (row : List ℕ) × (self.now.standing ≡ Found row) }
         ensures { self.now.standing ≡ Found result.now }
     {
+        // Opens the invariant of the parts for the proof.
         let _state = &self.state;
         &self.row
     }
@@ -227,6 +229,7 @@ impl Parts {
         ensures broken { OnErr result (IsLeftByFailedBlock self.old self.new) }
     {
         self.state = State::Failed;
+        // Opens the kernel's invariant for the proof.
         let _variables = self.kernel.variables();
         write_denial(&self.sizes, &self.row, &mut self.denial)?;
         let number = block(&mut self.trail, &mut self.kernel, &self.denial)?;

@@ -162,6 +162,7 @@ impl Checker {
         ensures grown { OnOk result (length self.new.own ≡ length self.old.own + 1) }
         ensures sound { OnOk result (AreSound form.now self.new.own self.new.refuted) }
     {
+        // The proof alone speaks of the form.
         let _ = form;
         self.own.push(&self.stage.clause)?;
         self.refuted = is_refuted_with(self.refuted, &self.stage.clause);
@@ -234,6 +235,7 @@ impl Checker {
             IsSpelled version text (lines.End word) → IsPassed (reading_as version may)
             form.now self.now.own self.now.blocks text result self.now.own self.now.blocks }
     {
+        // The proof alone speaks of the form.
         let _ = form;
         if self.refuted == says_empty(word) {
             Pass::Ends(word)

@@ -1,6 +1,9 @@
 //! Plain data of the causal calculator, and the definitions that every other crate cites: causal theories and
 //! their models, the rules of a horizon, states, transitions, paths, histories of a query and the printed texts.
-//! It has no algorithm. The definitions stand in `specs/`, and docs/definitions.md lists them.
+//! The definitions stand in `specs/`, and docs/definitions.md lists them. Its code is constructors and readers of the data, the digits
+//! of a number, and the search by halves in a sorted index. What `run` is proved of rests on further definitions, which stand in the
+//! specs of the crates that make the things they speak of: how a text is read (cc_laws, cc_describe), the words of the program
+//! (cc_words) and what a run promises (cc_list, cc_run); docs/theorem.md leads through them.
 #![tactic(auto)]
 
 mod digits;

@@ -18,18 +18,21 @@ impl<T> Model for List<T> {
 }
 
 impl<T> List<T> {
+    /// The list of these items, in their order.
     pub fn of(items: Vec<T>) -> Self
         ensures { result ≡ items.items }
     {
         List { items }
     }
 
+    /// The items, in their order.
     pub fn items(&self) -> &[T]
         ensures { result.now ≡ self.now }
     {
         self.items.as_slice()
     }
 
+    /// The items, in their order; the list is taken apart.
     pub fn into_items(self) -> Vec<T>
         ensures { result.items ≡ self }
     {

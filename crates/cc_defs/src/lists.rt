@@ -20,12 +20,14 @@ impl Model for Nums {
 }
 
 impl Nums {
+    /// The list of these numbers, in their order.
     pub fn of(items: Vec<u32>) -> Self
         ensures { result ≡ items.items }
     {
         Nums { numbers: items }
     }
 
+    /// The numbers, in their order.
     pub fn items(&self) -> &[u32]
         ensures { result.now ≡ self.now }
     {
@@ -49,12 +51,14 @@ impl Model for Row {
 }
 
 impl Row {
+    /// The row with these value indexes, position by position.
     pub fn of(items: Vec<u32>) -> Self
         ensures { result ≡ items.items }
     {
         Row { indexes: items }
     }
 
+    /// The value index of each position, in their order.
     pub fn items(&self) -> &[u32]
         ensures { result.now ≡ self.now }
     {
@@ -105,12 +109,14 @@ impl Model for Bytes {
 }
 
 impl Bytes {
+    /// The list of these bytes, in their order.
     pub fn of(items: Vec<u8>) -> Self
         ensures { result ≡ items.items }
     {
         Bytes { bytes: items }
     }
 
+    /// The bytes, in their order.
     pub fn items(&self) -> &[u8]
         ensures { result.now ≡ self.now }
     {
@@ -133,12 +139,14 @@ impl Model for Name {
 }
 
 impl Name {
+    /// The name that is spelled so, without quotes.
     pub fn of(text: String) -> Self
         ensures { result ≡ string_bytes text }
     {
         Name { name: text }
     }
 
+    /// How the name is spelled, without quotes.
     pub fn text(&self) -> &str
         ensures { result.now ≡ self.now }
     {
@@ -164,12 +172,14 @@ impl Model for Text {
 }
 
 impl Text {
+    /// The text with these characters.
     pub fn of(text: String) -> Self
         ensures { result ≡ string_bytes text }
     {
         Text { bytes: text }
     }
 
+    /// The characters of the text; a line feed ends each line.
     pub fn text(&self) -> &str
         ensures { result.now ≡ self.now }
     {
@@ -193,12 +203,14 @@ impl Model for Lits {
 }
 
 impl Lits {
+    /// The list of these literals, in their order.
     pub fn of(items: Vec<Lit>) -> Self
         ensures { result ≡ items.items }
     {
         Lits { literals: items }
     }
 
+    /// The literals, in their order.
     pub fn items(&self) -> &[Lit]
         ensures { result.now ≡ self.now }
     {

@@ -48,12 +48,14 @@ impl Lit {
         Lit { code: 2 * variable }
     }
 
+    /// The variable, from 1.
     pub fn variable(self) -> u32
         ensures { result ≡ self.variable }
     {
         self.code / 2
     }
 
+    /// Whether the literal is the variable, and not its negation.
     pub fn is_positive(self) -> bool
         ensures { result ≡ self.positive }
     {

@@ -88,6 +88,7 @@ impl<'s> Token<'s> {
         self.text
     }
 
+    /// Which kind of token it is.
     pub fn kind(&self) -> TokenKind
         ensures { result ≡ self.now.kind }
     {

@@ -442,6 +442,7 @@ impl<'a> GeneralTurns<'a> {
         ensures refused { (w : WideDescription) (q : Query) → IsGeneralOf self.now w q →
             IfErr result (IsRefusedBy (candidates_refusal w q self.now.horizon)) }
     {
+        // Opens the invariant of the turns for the proof.
         let _ = &self.alloc;
         let form = self.form()?;
         Ok(Search::of(self.alloc, form, None, self.budget)?)

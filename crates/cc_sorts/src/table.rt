@@ -97,6 +97,7 @@ impl Table {
     pub fn has_declarations(&self)
         ensures { IsOfDeclarations self.now }
     {
+        // Opens the table's invariant for the proof.
         let _register = &self.register;
     }
 

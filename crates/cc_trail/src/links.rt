@@ -134,6 +134,7 @@ impl Links {
         requires { BeginsWith self.old.ahead node }
         ensures { self.new ≡ record self.old { ahead = drop 1 self.old.ahead } }
     {
+        // Opens the invariant of the links for the proof.
         let _walked = self.walked;
         self.before = node + 1;
     }

@@ -439,6 +439,7 @@ impl Trail {
         ensures entries { result.now ≡ map literal_of_step self.now.steps }
         ensures steps { AreSteps self.now.variables self.now.steps self.now.level_count }
     {
+        // Opens the trail's invariant for the proof.
         let _count = self.entries.count();
         self.entries.literals()
     }

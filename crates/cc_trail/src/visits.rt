@@ -264,6 +264,7 @@ pub fn visit_pairs(
     ensures failed { IfSome result (λ number.
         IsFailedClause (clauses_of kernel.now) entries.new.steps number) }
 {
+    // Opens the kernel's invariant for the proof.
     let _variables = kernel.variables();
     let fallen = entries.step(place).lit.opposite();
     for other in pairs.beside(fallen) {
