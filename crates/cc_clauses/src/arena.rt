@@ -8,7 +8,6 @@ use std::marker::Model;
 
 /// A list of clauses, each a list of literals. It takes four bytes a clause and four bytes a literal, and has fewer than 2^32 literals
 /// together: memory is wanting for more.
-#[derive(Drop)]
 pub struct ClauseArena {
     // The clauses, one after another.
     all: Vec<Lit>,
@@ -27,6 +26,14 @@ impl Model for ClauseArena {
     ghost view = { view_of };
 
     ghost invariant = { IsArena };
+}
+
+// By hand, so that whoever lets clauses go has one call there, and not a drop for each field.
+impl Drop for ClauseArena {
+    fn drop(self) {
+        let ClauseArena { all, ends: _ } = self;
+        drop(all);
+    }
 }
 
 // The literals between two places.
