@@ -69,7 +69,6 @@ fn rules_meant<'a>(
 
 /// The causal theory of a horizon: its rules in order, and which of them have an atom, or falsity, for their head. A rule has
 /// the number at which it stands, from 0.
-#[derive(Drop)]
 pub struct Theory<'a> {
     sig: &'a Sig,
     horizon: u32,
@@ -94,6 +93,19 @@ impl<'a> Model for Theory<'a> {
     ghost invariant = { λ theory. AreIndexed theory.sig.now theory.horizon theory.rules.items
         theory.index.firsts.items theory.index.begins.items theory.index.numbers.items × AreRulesAt
         theory.sig.now theory.horizon theory.rules.items × (theory.horizon ≤ most_steps) };
+}
+
+// By hand, so that whoever lets a theory go has one call there, and not a drop for each field.
+impl<'a> Drop for Theory<'a> {
+    fn drop(self) {
+        let Theory {
+            sig: _,
+            horizon: _,
+            rules,
+            index: _,
+        } = self;
+        drop(rules);
+    }
 }
 
 impl<'a> Theory<'a> {
