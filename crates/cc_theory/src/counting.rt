@@ -59,7 +59,8 @@ pub(crate) fn rule_count(sig: &Sig, laws: &[GroundLaw<'_>], horizon: u32) -> usi
 /// Whether a horizon has no more rules than their limit.
 pub fn are_rules_few(sig: &Sig, laws: &Laws<'_>, horizon: u32) -> bool
     requires { horizon ≤ most_steps }
-    ensures { result ≡ true → length (rules_for sig.now laws.now horizon) ≤ most_rules }
+    ensures few { result ≡ true → length (rules_for sig.now laws.now horizon) ≤ most_rules }
+    ensures all_few { length (rules_for sig.now laws.now horizon) ≤ most_rules → result ≡ true }
 {
     rule_count(sig, laws.laws(), horizon) <= LimitAt::Rules.number() as usize
 }
