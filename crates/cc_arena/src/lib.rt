@@ -2,7 +2,7 @@
 #![tactic(auto)]
 
 mod ground_laws;
-pub mod laws;
+pub mod theorems;
 mod terms;
 
 pub use ground_laws::{GroundCondition, GroundLaw, GroundQuery, Laws};

@@ -12,14 +12,14 @@ ghost use Rattle.cc_cdcl.specs.Derivations.{IsBackOver, IsDerived, IsDeriving, I
 ghost use Rattle.cc_cdcl.specs.Searches.{KeepsEntries};
 ghost use Rattle.cc_cdcl.specs.Solvers.{AddsBlock, AddsDerived};
 
-use crate::laws::learned_is_earned;
+use crate::theorems::learned_is_earned;
 use crate::probe::Probe;
 use crate::redundancy::{DEEPEST, Mark, is_redundant};
 use crate::shortening::Shortening;
 use cc_defs::{Lit, OutOfMemory};
 use cc_kernel::{Kernel, Origin};
 use cc_trail::Trail;
-use cc_trail::laws::{adding_keeps_fit, adding_keeps_settled};
+use cc_trail::theorems::{adding_keeps_fit, adding_keeps_settled};
 
 // Whether a variable got its value at a level.
 fn is_of(trail: &Trail, level: u32, variable: u32) -> bool

@@ -8,7 +8,7 @@
 
 mod analysis;
 mod choice;
-pub mod laws;
+pub mod theorems;
 mod order;
 mod places;
 mod probe;

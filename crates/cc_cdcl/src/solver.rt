@@ -12,7 +12,7 @@ ghost use Rattle.cc_cdcl.specs.Solvers.{AreEarned, HasPositions, IsLeftByFailure
 
 use crate::analysis::{block, learn, refute};
 use crate::choice::{Cursor, true_value};
-use crate::laws::{earned_lines_are_few, least_row_is_found};
+use crate::theorems::{earned_lines_are_few, least_row_is_found};
 use crate::probe::Probe;
 use crate::search::{begin, count_line, search_on};
 use crate::shortening::Shortening;

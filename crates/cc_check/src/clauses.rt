@@ -11,7 +11,7 @@ ghost use Rattle.cc_check.specs.Readers.{chain_of, literals_of, numbers_of};
 
 use crate::number::Named;
 use crate::reader::{ChainReader, LiteralReader, NumberReader};
-use cc_clauses::laws::resolvents_are_unique;
+use cc_clauses::theorems::resolvents_are_unique;
 use cc_clauses::{ClauseArena, clash_on, resolve_into};
 use cc_defs::{Lit, OutOfMemory};
 use cc_form::Form;

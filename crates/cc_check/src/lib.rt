@@ -8,7 +8,7 @@ mod entry;
 mod fault;
 mod front;
 mod judge;
-pub mod laws;
+pub mod theorems;
 mod line;
 mod number;
 mod reader;

@@ -2,7 +2,7 @@
 #![tactic(auto)]
 
 mod arena;
-pub mod laws;
+pub mod theorems;
 mod resolution;
 
 pub use arena::ClauseArena;

@@ -2,7 +2,7 @@
 #![tactic(auto)]
 
 mod held;
-pub mod laws;
+pub mod theorems;
 mod lines;
 mod said;
 

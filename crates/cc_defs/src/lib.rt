@@ -11,7 +11,7 @@ mod event;
 mod formula;
 mod index;
 mod law;
-pub mod laws;
+pub mod theorems;
 mod list;
 mod lists;
 mod literal;

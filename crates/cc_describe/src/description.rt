@@ -11,10 +11,10 @@ ghost use Rattle.cc_describe.specs.ProgressViews.{IsProgress, StopsAs};
 
 use crate::files::{Halt, read_file};
 use crate::heads::Heads;
-use crate::laws::has_places;
+use crate::theorems::has_places;
 use crate::progress::Progress;
 use cc_defs::{BaseLaws, LimitAt, List, Name, Names, OutOfMemory, Queries, Refusal, Sig};
-use cc_laws::laws::{
+use cc_laws::theorems::{
     constants_have_forms, laws_have_forms, queries_have_formulas, wide_constants_have_forms,
     wide_laws_have_forms,
 };

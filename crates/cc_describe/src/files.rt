@@ -11,9 +11,9 @@ ghost use Rattle.cc_describe.specs.ProgressViews.{FindsFiles, GoesSomewhere, Goe
 use crate::progress::{Progress, take_up};
 use cc_defs::{Bytes, Fault, LimitAt, OutOfMemory, Refusal};
 use cc_ports::{Desk, ReadStop, read_all};
-use cc_syntax::laws::tree_or_refusal;
+use cc_syntax::theorems::tree_or_refusal;
 use cc_text::Tokens;
-use cc_text::laws::{cut_or_stop, statements_are_tokens};
+use cc_text::theorems::{cut_or_stop, statements_are_tokens};
 use std::alloc::Global;
 
 /// Why the reading of a description ends before its end.

@@ -5,7 +5,7 @@ mod description;
 mod files;
 mod heads;
 mod labels;
-pub mod laws;
+pub mod theorems;
 mod progress;
 
 pub use description::{DescribeStop, Described, DescribedWide, describe, describe_with};

@@ -4,7 +4,7 @@
 mod cnf;
 mod export;
 mod form;
-pub mod laws;
+pub mod theorems;
 mod lines;
 mod progress;
 mod read;

@@ -7,7 +7,7 @@ mod defining;
 mod draft;
 mod form;
 mod groups;
-pub mod laws;
+pub mod theorems;
 mod moving;
 mod places;
 mod rules;

@@ -23,7 +23,7 @@ use cc_arena::Laws;
 use cc_clauses::ClauseArena;
 use cc_defs::{Fault, Lit, OutOfMemory, Sig};
 use cc_results::both;
-use cc_theory::laws::laws_give_rules;
+use cc_theory::theorems::laws_give_rules;
 use cc_theory::{Theory, TimedRule, initial_rules, step_rules};
 use std::alloc::Global;
 use std::mem::replace;

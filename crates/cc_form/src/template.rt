@@ -21,16 +21,16 @@ ghost use Rattle.cc_form.specs.Steps.{AreOverSteps, AreSteps, CanPlace, IsFormAt
 
 use crate::draft::write_first;
 use crate::form::{Form, add_query, clauses, close};
-use crate::laws::clauses_tell_rows;
+use crate::theorems::clauses_tell_rows;
 use crate::moving::{Way, place};
 use crate::steps::{Steps, steps_of};
 use crate::store::Store;
 use crate::writer::Writer;
-use cc_arena::laws::terms_mean_formulas;
+use cc_arena::theorems::terms_mean_formulas;
 use cc_arena::{GroundQuery, Laws, one_formula};
 use cc_defs::{Fault, Key, LimitAt, OutOfMemory, Refusal, Sig};
 use cc_results::filled;
-use cc_theory::laws::{laws_give_rules, models_are_paths, models_meet_completion};
+use cc_theory::theorems::{laws_give_rules, models_are_paths, models_meet_completion};
 use cc_theory::{Theory, are_rules_few};
 use std::alloc::Global;
 use std::marker::Model;

@@ -13,11 +13,11 @@ ghost use Rattle.cc_wide.specs.WideLaws.{WideDescription, frame};
 
 use crate::verdict::GeneralVerdict;
 use cc_arena::GroundQuery;
-use cc_check::laws::silent_sections_have_no_rows;
+use cc_check::theorems::silent_sections_have_no_rows;
 use cc_check::{Silent, judge_silent, number_at};
 use cc_defs::{Fault, Key, OutOfMemory, Row, Sig};
 use cc_form::Form;
-use cc_rivals::laws::{histories_have_no_rivals, rival_lists_tell_rivals};
+use cc_rivals::theorems::{histories_have_no_rivals, rival_lists_tell_rivals};
 use cc_rivals::{candidates, is_candidate, rivals};
 use cc_wide::WideGround;
 use std::alloc::Global;

@@ -5,7 +5,7 @@
 mod check;
 mod general;
 mod halt;
-pub mod laws;
+pub mod theorems;
 mod phase;
 mod queue;
 mod turn;

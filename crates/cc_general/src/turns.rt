@@ -26,7 +26,7 @@ use crate::turn::GeneralTurn;
 use cc_arena::GroundQuery;
 use cc_defs::{EndWord, Ending, Fault, List, LogLine, OutOfMemory, Row, Sig};
 use cc_form::Form;
-use cc_rivals::laws::histories_have_no_rivals;
+use cc_rivals::theorems::histories_have_no_rivals;
 use cc_rivals::{candidates, rivals};
 use cc_search::{Find, Outcome, Search, search_one};
 use cc_wide::WideGround;

@@ -17,7 +17,7 @@ use crate::heads::head_under;
 use crate::judged::size_of;
 use crate::pieces::{gather_both, has_sum};
 use crate::values::{objects_of, values_in_range};
-use cc_arena::laws::heads_there_are_ground;
+use cc_arena::theorems::heads_there_are_ground;
 use cc_defs::{BaseLaw, Condition, Formula, Law, OutOfMemory, Query, Range, Sig, Term};
 use cc_sorts::Table;
 use std::alloc::Global;

@@ -10,7 +10,7 @@ mod counting;
 mod heads;
 mod instances;
 mod judged;
-pub mod laws;
+pub mod theorems;
 mod maker;
 mod outermost;
 mod pairs;

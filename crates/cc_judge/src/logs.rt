@@ -16,10 +16,10 @@ ghost use Rattle.cc_theory.specs.Theories.{AreLawsFor, AreLawsOf};
 
 use crate::standing::{Next, Standing, closing, first_of, follow, is_next};
 use cc_arena::{GroundQuery, Laws};
-use cc_cdcl::laws::denial_leaves_others;
-use cc_check::laws::{misreads_are_verdicts, sections_give_verdicts};
+use cc_cdcl::theorems::denial_leaves_others;
+use cc_check::theorems::{misreads_are_verdicts, sections_give_verdicts};
 use cc_check::{CheckFault, Section, Sections, find};
-use cc_clauses::laws::resolvents_are_sound;
+use cc_clauses::theorems::resolvents_are_sound;
 use cc_defs::{Cause, Fault, Key, LogVerdict, Sig};
 use cc_query::form_at;
 use std::alloc::Global;

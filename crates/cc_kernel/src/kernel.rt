@@ -6,7 +6,7 @@ ghost use Rattle.cc_kernel.specs.Kernels.{KernelView, Entry, clauses_of, added, 
 ghost use Rattle.cc_kernel.specs.Parts.{entries_of};
 
 use cc_clauses::ClauseArena;
-use cc_clauses::laws::resolvents_are_sound;
+use cc_clauses::theorems::resolvents_are_sound;
 use cc_defs::{Lit, OutOfMemory};
 use cc_stage::Stage;
 use std::alloc::Global;

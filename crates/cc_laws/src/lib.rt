@@ -10,7 +10,7 @@ mod expansion;
 mod forms;
 mod head_parts;
 mod heads;
-pub mod laws;
+pub mod theorems;
 mod made;
 mod meaning;
 mod mention;

@@ -18,13 +18,13 @@ ghost use Rattle.cc_describe.specs.Describing.{HasForms};
 ghost use Rattle.cc_ground.specs.Counting.{laws_refusal};
 ghost use Rattle.cc_theory.specs.Theories.{AreLawsFor, AreLawsOf};
 
-use cc_arena::laws::{fluent_terms_fit, ground_queries_fit};
+use cc_arena::theorems::{fluent_terms_fit, ground_queries_fit};
 use cc_arena::{GroundQuery, Laws, Terms};
 use cc_defs::{Fault, Query};
 use cc_describe::Described;
-use cc_ground::laws::{declared_have_own_values, declared_have_their_kinds};
+use cc_ground::theorems::{declared_have_own_values, declared_have_their_kinds};
 use cc_ground::{ground, ground_query};
-use cc_laws::laws::steps_fit;
+use cc_laws::theorems::steps_fit;
 use std::alloc::Global;
 
 /// The ground laws of a description, as the theory of a horizon asks for them: one for each instance of its base laws, in

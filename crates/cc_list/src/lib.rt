@@ -4,7 +4,7 @@
 
 mod asked;
 mod asking;
-pub mod laws;
+pub mod theorems;
 mod listing;
 mod running;
 mod searching;

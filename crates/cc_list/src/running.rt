@@ -6,7 +6,7 @@ ghost use Rattle.cc_list.specs.WholeRuns.{AnswersWords, RunsBy};
 
 use crate::listing::list;
 use cc_defs::{OutOfMemory, Refusal};
-use cc_describe::laws::has_places;
+use cc_describe::theorems::has_places;
 use cc_ports::Desk;
 use cc_tell::{Status, Stop, refuse, tell_stop};
 use cc_words::{Asked, ListAsked, read};

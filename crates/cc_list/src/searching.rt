@@ -19,12 +19,12 @@ ghost use Rattle.cc_tell.specs.Tellers.{IsCounted, IsWritableBy, KeepsUp, manner
 ghost use Rattle.cc_tell.specs.Statuses.{status_told};
 ghost use Rattle.cc_tell.specs.Givens.{nothing, only_log};
 
-use crate::laws::log_laws;
+use crate::theorems::log_laws;
 use cc_arena::{GroundQuery, Laws};
 use cc_defs::{Event, Fault, LogLine};
 use cc_describe::Described;
 use cc_ports::Desk;
-use cc_query::laws::spent_budgets_are_small;
+use cc_query::theorems::spent_budgets_are_small;
 use cc_query::{Ask, Session};
 use cc_tell::{Status, Stop, Teller, give_header, status_of, tell_by, tell_limit};
 use std::alloc::Global;

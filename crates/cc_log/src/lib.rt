@@ -3,7 +3,7 @@
 #![tactic(auto)]
 
 mod binary;
-pub mod laws;
+pub mod theorems;
 mod put;
 
 pub use binary::put_binary;

@@ -4,7 +4,7 @@
 mod atoms;
 mod histories;
 mod keys;
-pub mod laws;
+pub mod theorems;
 mod models;
 mod summaries;
 mod texts;

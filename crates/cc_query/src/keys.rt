@@ -8,7 +8,7 @@ ghost use Rattle.cc_form.specs.Places.{position_sizes};
 ghost use Rattle.cc_query.specs.Sessions.{Fits, FitsIn};
 
 use cc_arena::GroundQuery;
-use cc_defs::laws::positions_have_sizes;
+use cc_defs::theorems::positions_have_sizes;
 use cc_defs::{Key, Sig};
 
 /// Whether a row has an index for each position of a horizon, below the number of its values. It takes no memory.

@@ -4,7 +4,7 @@
 
 mod ask;
 mod keys;
-pub mod laws;
+pub mod theorems;
 mod lists;
 mod opening;
 mod phase;

@@ -30,7 +30,7 @@ ghost use Rattle.cc_query.specs.declared.phase.Phase.TheVariants as phases;
 ghost use Rattle.cc_theory.specs.Theories.{AreLawsFor};
 
 use crate::ask::Ask;
-use crate::laws::search_laws;
+use crate::theorems::search_laws;
 use crate::lists::Lists;
 use crate::opening::{denies_claim, solver_of};
 use crate::phase::{Part, Phase};

@@ -21,10 +21,10 @@ ghost use Rattle.cc_wide.specs.WideRules.{IsCandidate};
 use crate::positions::stride;
 use crate::putting::{is_true, meets_parts};
 use crate::timed::{PlacedRule, placed_condition, rule_at};
-use cc_arena::laws::terms_mean_formulas;
+use cc_arena::theorems::terms_mean_formulas;
 use cc_arena::{GroundCondition, GroundQuery};
 use cc_defs::Sig;
-use cc_defs::laws::positions_have_sizes;
+use cc_defs::theorems::positions_have_sizes;
 use cc_wide::{WideGround, WideGroundLaw};
 
 /// Whether a row has an index for each position of a horizon, below the number of its values.

@@ -16,7 +16,7 @@ ghost use Rattle.cc_rivals.specs.Wides.{AreWideLawsFor, AreWideLawsOf, candidate
 use crate::draft::{begun, deny_claim, put_conditions};
 use crate::positions::stride;
 use cc_arena::GroundQuery;
-use cc_arena::laws::terms_mean_formulas;
+use cc_arena::theorems::terms_mean_formulas;
 use cc_defs::{Fault, Sig};
 use cc_form::Form;
 use cc_wide::WideGround;

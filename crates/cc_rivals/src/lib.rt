@@ -5,7 +5,7 @@ mod candidate;
 mod candidate_clauses;
 mod counting;
 mod draft;
-pub mod laws;
+pub mod theorems;
 mod positions;
 mod putting;
 mod rival_clauses;

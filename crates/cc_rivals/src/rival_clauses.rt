@@ -12,7 +12,7 @@ ghost use Rattle.cc_rivals.specs.Wides.{AreWideLawsFor, AreWideLawsOf, rivals_re
 
 use crate::draft::{begun, deny_row};
 use crate::positions::sizes_of;
-use cc_arena::laws::terms_mean_formulas;
+use cc_arena::theorems::terms_mean_formulas;
 use cc_defs::{Fault, Sig};
 use cc_form::Form;
 use cc_wide::WideGround;

@@ -19,7 +19,7 @@ use cc_arena::{Laws, Terms};
 use cc_defs::{Fault, Key, LimitAt, Refusal, Sig};
 use cc_describe::Described;
 use cc_list::laws_of;
-use cc_print::laws::one_key;
+use cc_print::theorems::one_key;
 use cc_print::read_key;
 use cc_query::is_row;
 use cc_theory::Theory;

@@ -30,7 +30,7 @@ use crate::modes::{
 use bumpalo::Bump;
 use cc_arena::Terms;
 use cc_defs::{Fault, Refusal};
-use cc_describe::laws::has_places;
+use cc_describe::theorems::has_places;
 use cc_describe::{DescribeStop, Described, DescribedWide, Heads, describe_with};
 use cc_list::{Prepared, list, prepare};
 use cc_make::{TextDesk, make_text};

@@ -11,7 +11,7 @@ ghost use Rattle.cc_wide_ground.specs.WideGrounding.{wide_laws_refusal};
 use cc_arena::Terms;
 use cc_defs::Fault;
 use cc_describe::DescribedWide;
-use cc_ground::laws::declared_have_own_values;
+use cc_ground::theorems::declared_have_own_values;
 use cc_wide::WideGround;
 use cc_wide_ground::ground_wide;
 use std::alloc::Global;

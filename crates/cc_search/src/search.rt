@@ -21,7 +21,7 @@ use crate::stage::{Find, Stage};
 use cc_cdcl::{Solver, Step};
 use cc_defs::{EndWord, Fault, LimitAt, LogLine, OutOfMemory, Refusal};
 use cc_form::Form;
-use cc_query::laws::search_laws;
+use cc_query::theorems::search_laws;
 use cc_query::{Ask, block_line, budget_of, derived_line, is_asked, is_refuted, solver_of};
 use std::alloc::{AllocError, Global};
 use std::marker::Model;

@@ -5,7 +5,7 @@ mod declaration;
 mod dictionary;
 mod entering;
 mod fault;
-pub mod laws;
+pub mod theorems;
 mod left;
 mod lists;
 mod numbers;

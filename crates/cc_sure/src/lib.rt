@@ -5,7 +5,7 @@
 mod answer;
 mod check;
 mod examples;
-pub mod laws;
+pub mod theorems;
 mod phase;
 mod sure;
 mod verdict;

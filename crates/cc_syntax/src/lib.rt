@@ -8,7 +8,7 @@ mod declarations;
 mod formulas;
 mod frames;
 mod items;
-pub mod laws;
+pub mod theorems;
 mod operators;
 mod queries;
 mod reading;

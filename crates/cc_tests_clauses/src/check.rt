@@ -229,8 +229,8 @@ fn lines_behind_an_end_are_found(rt: HostRuntime) {
 
 #[test]
 fn laws_are_called(_rt: HostRuntime) {
-    cc_log::laws::lines_are_unique();
-    cc_log::laws::logs_tell_their_lines();
-    laws::misreads_are_verdicts();
-    laws::sections_give_verdicts();
+    cc_log::theorems::lines_are_unique();
+    cc_log::theorems::logs_tell_their_lines();
+    theorems::misreads_are_verdicts();
+    theorems::sections_give_verdicts();
 }

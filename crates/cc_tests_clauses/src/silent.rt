@@ -168,5 +168,5 @@ fn logs_are_refused(rt: HostRuntime) {
 
 #[test]
 fn a_law_is_called(_rt: HostRuntime) {
-    laws::silent_sections_have_no_rows();
+    theorems::silent_sections_have_no_rows();
 }

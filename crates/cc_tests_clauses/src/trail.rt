@@ -9,7 +9,7 @@ ghost use Rattle.cc_trail.specs.Trails.{Fits, IsSettled};
 use cc_defs::{Lit, OutOfMemory};
 use cc_kernel::Kernel;
 use cc_trail::Trail;
-use cc_trail::laws::adding_keeps_fit;
+use cc_trail::theorems::adding_keeps_fit;
 use std::alloc::Global;
 use std::test::Fail;
 

@@ -25,7 +25,7 @@ const CLASH: &str = ":- constants p :: simpleFluent. caused p. caused -p. :- que
 
 #[test]
 fn laws_may_be_called() {
-    cc_syntax::laws::one_tree();
+    cc_syntax::theorems::one_tree();
 }
 
 #[test]

@@ -272,9 +272,9 @@ fn printable_bytes_stand_in_quotes(rt: HostRuntime) -> Result<(), Fail> {
 
 #[test]
 fn laws_are_called(_rt: HostRuntime) {
-    laws::one_cut();
-    laws::one_stop();
-    laws::cuts_or_stops();
-    laws::cut_or_stop();
-    laws::statements_are_tokens();
+    theorems::one_cut();
+    theorems::one_stop();
+    theorems::cuts_or_stops();
+    theorems::cut_or_stop();
+    theorems::statements_are_tokens();
 }

@@ -5,7 +5,7 @@
 
 mod classes;
 mod fronts;
-pub mod laws;
+pub mod theorems;
 mod marks;
 mod scanner;
 mod tokens;

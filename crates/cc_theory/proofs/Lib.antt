@@ -14,6 +14,6 @@ mod Reading
 mod RulesFit
 mod Same
 mod Supported
-mod Theorems
+mod Meant
 mod WellGrounded
 mod Windows

@@ -4,7 +4,7 @@
 mod counting;
 mod groups;
 mod index;
-pub mod laws;
+pub mod theorems;
 mod making;
 mod rule;
 mod theory;

@@ -14,7 +14,7 @@ ghost use Rattle.cc_theory.specs.Theories.{AreLawsOf, AreLawsFor, AreRulesAt, Is
 use crate::counting::rule_count;
 use crate::groups::group;
 use crate::index::{Index, index_of, place};
-use crate::laws::{models_are_paths, models_meet_completion};
+use crate::theorems::{models_are_paths, models_meet_completion};
 use crate::making::all_rules;
 use crate::rule::{TimedHead, TimedRule};
 use cc_arena::{GroundLaw, Laws};

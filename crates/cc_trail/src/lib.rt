@@ -4,7 +4,7 @@
 #![tactic(auto)]
 
 mod entries;
-pub mod laws;
+pub mod theorems;
 mod links;
 mod nodes;
 mod pairs;

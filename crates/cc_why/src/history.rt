@@ -15,9 +15,9 @@ ghost use Rattle.cc_theory.specs.Theories.{IsPart, IsRuleOf, IsTheoryOf, plain_h
 ghost use Rattle.cc_why.specs.Meeting.{AreAtoms, IsHeadIn, IsPartIn, IsRuleIn, IsTermFrom, has_head, holds_in, is_settled, meets};
 
 use cc_arena::value;
-use cc_defs::laws::positions_have_sizes;
+use cc_defs::theorems::positions_have_sizes;
 use cc_defs::{Node, Sig};
-use cc_theory::laws::{models_are_paths, models_meet_completion};
+use cc_theory::theorems::{models_are_paths, models_meet_completion};
 use cc_theory::{Theory, Timed, TimedHead, TimedRule};
 
 /// How many positions lie between a constant at a step and the same one at the next.

@@ -19,9 +19,9 @@ ghost use Rattle.cc_why.specs.Noting.{AreNoted, MeanAt, MeansAt, StandIn, after_
 use crate::cause::{Cause, Causes};
 use crate::history::{is_true_at, stride};
 use cc_arena::{GroundLaw, Laws};
-use cc_defs::laws::positions_have_sizes;
+use cc_defs::theorems::positions_have_sizes;
 use cc_defs::{GroundHead, Kind, LawKind, List, OutOfMemory, Sig};
-use cc_theory::laws::{models_are_paths, models_meet_completion};
+use cc_theory::theorems::{models_are_paths, models_meet_completion};
 use std::alloc::Global;
 
 /// Whether a constant is a simple fluent.

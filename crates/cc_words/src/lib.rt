@@ -22,7 +22,7 @@
 
 mod asked;
 mod given;
-pub mod laws;
+pub mod theorems;
 mod modes;
 mod names;
 mod numbers;

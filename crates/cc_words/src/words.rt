@@ -6,7 +6,7 @@ ghost use Rattle.cc_words.specs.Views.{plain_asked};
 ghost use Rattle.cc_words.specs.Words.{IsPlain, Pair, Text, given_of};
 
 use crate::asked::Asked;
-use crate::laws::plain_words_read_as_they_stand;
+use crate::theorems::plain_words_read_as_they_stand;
 use crate::parse::asked_by;
 use cc_defs::OutOfMemory;
 use std::alloc::Global;

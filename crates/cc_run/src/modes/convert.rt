@@ -31,13 +31,13 @@ ghost use Rattle.cc_words.specs.Views.{plain_request};
 ghost use Rattle.cc_words.specs.declared.asked.Asked.TheVariants as requests;
 
 use crate::modes::check::tell_verdict;
-use cc_convert::laws::accepted_logs_say_lines;
+use cc_convert::theorems::accepted_logs_say_lines;
 use cc_convert::{behind_header, said_line, version_of};
 use cc_defs::{Fault, LimitAt, LogLine, LogVerdict, OutOfMemory, Refusal, Version};
 use cc_describe::Described;
 use cc_judge::judge;
 use cc_list::Prepared;
-use cc_log::laws::other_versions_are_judged_alike;
+use cc_log::theorems::other_versions_are_judged_alike;
 use cc_ports::{Desk, ReadStop, read_all};
 use cc_query::form_at;
 use cc_tell::{

@@ -23,7 +23,7 @@ use cc_arena::Terms;
 use cc_defs::Fault;
 use cc_describe::DescribedWide;
 use cc_general::GeneralTurns;
-use cc_general::laws::general_logs_are_accepted;
+use cc_general::theorems::general_logs_are_accepted;
 use cc_ports::{Desk, To};
 use cc_tell::{Status, Stop, begin_log, file_named, give, refuse, tell_limit};
 use cc_tell_modes::tell_general;

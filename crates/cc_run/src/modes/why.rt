@@ -20,7 +20,7 @@ ghost use Rattle.cc_words.specs.Words.{Text};
 use crate::rows::{LookedAt, look_at};
 use bumpalo::Bump;
 use cc_arena::{Laws, Terms};
-use cc_defs::laws::positions_have_sizes;
+use cc_defs::theorems::positions_have_sizes;
 use cc_defs::{Fault, Key};
 use cc_describe::Described;
 use cc_ports::{Desk, To};

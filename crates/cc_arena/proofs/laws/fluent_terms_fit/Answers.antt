@@ -1,5 +1,0 @@
-use Rattle.cc_arena.proofs.FittingLaws.{fluent_fits}
-use Rattle.cc_arena.proofs.laws.fluent_terms_fit.Goals as goal
-
-pub returns : goal.returns
-returns c = fluent_fits

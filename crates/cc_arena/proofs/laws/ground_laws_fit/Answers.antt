@@ -1,5 +1,0 @@
-use Rattle.cc_arena.proofs.FittingLaws.{laws_fit}
-use Rattle.cc_arena.proofs.laws.ground_laws_fit.Goals as goal
-
-pub returns : goal.returns
-returns c = laws_fit

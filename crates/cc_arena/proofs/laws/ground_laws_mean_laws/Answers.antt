@@ -1,5 +1,0 @@
-use Rattle.cc_arena.proofs.Meaning.{laws_mean}
-use Rattle.cc_arena.proofs.laws.ground_laws_mean_laws.Goals as goal
-
-pub returns : goal.returns
-returns c = laws_mean

@@ -1,5 +1,0 @@
-use Rattle.cc_arena.proofs.Meaning.{query_means}
-use Rattle.cc_arena.proofs.laws.ground_queries_mean_queries.Goals as goal
-
-pub returns : goal.returns
-returns c = query_means

@@ -1,5 +1,0 @@
-use Rattle.cc_arena.proofs.Meaning.{head_means}
-use Rattle.cc_arena.proofs.laws.heads_mean_heads.Goals as goal
-
-pub returns : goal.returns
-returns c = head_means

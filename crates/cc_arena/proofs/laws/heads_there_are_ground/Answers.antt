@@ -1,5 +1,0 @@
-use Rattle.cc_arena.proofs.Meaning.{heads_there}
-use Rattle.cc_arena.proofs.laws.heads_there_are_ground.Goals as goal
-
-pub returns : goal.returns
-returns c = heads_there

@@ -1,5 +1,0 @@
-use Rattle.cc_arena.proofs.Meaning.{means}
-use Rattle.cc_arena.proofs.laws.terms_mean_formulas.Goals as goal
-
-pub returns : goal.returns
-returns c = means

@@ -1,5 +1,0 @@
-use Rattle.cc_cdcl.proofs.Closed.{alike_closed}
-use Rattle.cc_cdcl.proofs.laws.closed_meet.Goals as goal
-
-pub returns : goal.returns
-returns c = alike_closed

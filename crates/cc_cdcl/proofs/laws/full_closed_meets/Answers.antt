@@ -1,5 +1,0 @@
-use Rattle.cc_cdcl.proofs.Closed.{full_met}
-use Rattle.cc_cdcl.proofs.laws.full_closed_meets.Goals as goal
-
-pub returns : goal.returns
-returns c = full_met

@@ -1,5 +1,0 @@
-use Rattle.cc_cdcl.proofs.Learning.{learned}
-use Rattle.cc_cdcl.proofs.laws.learned_is_earned.Goals as goal
-
-pub returns : goal.returns
-returns c = learned

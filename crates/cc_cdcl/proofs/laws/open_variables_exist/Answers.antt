@@ -1,5 +1,0 @@
-use Rattle.cc_cdcl.proofs.OpenExist.{open_exist}
-use Rattle.cc_cdcl.proofs.laws.open_variables_exist.Goals as goal
-
-pub returns : goal.returns
-returns c = open_exist

@@ -1,5 +1,0 @@
-use Rattle.cc_check.proofs.Verdicts.{misreads_are_verdicts}
-use Rattle.cc_check.proofs.laws.misreads_are_verdicts.Goals as goal
-
-pub returns : goal.returns
-returns c = misreads_are_verdicts

@@ -1,5 +1,0 @@
-use Rattle.cc_check.proofs.Verdicts.{sections_give_verdicts}
-use Rattle.cc_check.proofs.laws.sections_give_verdicts.Goals as goal
-
-pub returns : goal.returns
-returns c = sections_give_verdicts

@@ -1,5 +1,0 @@
-use Rattle.cc_clauses.proofs.Soundness.{sound}
-use Rattle.cc_clauses.proofs.laws.resolvents_are_sound.Goals as goal
-
-pub returns : goal.returns
-returns c = sound

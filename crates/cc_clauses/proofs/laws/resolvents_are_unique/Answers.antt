@@ -1,5 +1,0 @@
-use Rattle.cc_clauses.proofs.Soundness.{unique}
-use Rattle.cc_clauses.proofs.laws.resolvents_are_unique.Goals as goal
-
-pub returns : goal.returns
-returns c = unique

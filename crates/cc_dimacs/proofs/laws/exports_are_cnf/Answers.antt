@@ -1,5 +1,0 @@
-use Rattle.cc_dimacs.proofs.Exported.{exports_are_cnf}
-use Rattle.cc_dimacs.proofs.laws.exports_are_cnf.Goals as goal
-
-pub returns : goal.returns
-returns c = exports_are_cnf

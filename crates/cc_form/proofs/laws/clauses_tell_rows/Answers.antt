@@ -1,5 +1,0 @@
-use Rattle.cc_form.proofs.Telling.{clauses_tell_rows}
-use Rattle.cc_form.proofs.laws.clauses_tell_rows.Goals as goal
-
-pub returns : goal.returns
-returns c = clauses_tell_rows

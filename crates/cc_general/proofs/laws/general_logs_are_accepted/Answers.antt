@@ -1,5 +1,0 @@
-use Rattle.cc_general.proofs.Accepting.{logs_are_accepted}
-use Rattle.cc_general.proofs.laws.general_logs_are_accepted.Goals as goal
-
-pub returns : goal.returns
-returns c = logs_are_accepted c.histories_have_no_rivals.ensures

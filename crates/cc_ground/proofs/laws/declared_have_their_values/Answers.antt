@@ -1,5 +1,0 @@
-use Rattle.cc_ground.proofs.FromDeclarations.{values_are}
-use Rattle.cc_ground.proofs.laws.declared_have_their_values.Goals as goal
-
-pub returns : goal.returns
-returns c = values_are

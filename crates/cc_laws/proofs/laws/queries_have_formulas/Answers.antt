@@ -1,5 +1,0 @@
-use Rattle.cc_laws.proofs.QueryForms.{queries_formulas}
-use Rattle.cc_laws.proofs.laws.queries_have_formulas.Goals as goal
-
-pub returns : goal.returns
-returns c = queries_formulas

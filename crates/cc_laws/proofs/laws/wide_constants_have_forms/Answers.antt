@@ -1,5 +1,0 @@
-use Rattle.cc_laws.proofs.FormsOfConstants.{wide_constants_forms}
-use Rattle.cc_laws.proofs.laws.wide_constants_have_forms.Goals as goal
-
-pub returns : goal.returns
-returns c = wide_constants_forms

@@ -1,5 +1,0 @@
-use Rattle.cc_log.proofs.Lines.{one_line}
-use Rattle.cc_log.proofs.laws.lines_are_unique.Goals as goal
-
-pub returns : goal.returns
-returns c = one_line

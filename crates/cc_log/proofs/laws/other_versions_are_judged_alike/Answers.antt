@@ -1,5 +1,0 @@
-use Rattle.cc_log.proofs.Converting.{other_versions_are_judged_alike}
-use Rattle.cc_log.proofs.laws.other_versions_are_judged_alike.Goals as goal
-
-pub returns : goal.returns
-returns c = other_versions_are_judged_alike

@@ -1,5 +1,0 @@
-use Rattle.cc_print.proofs.KeyTexts.{written_apart}
-use Rattle.cc_print.proofs.laws.written_apart.Goals as goal
-
-pub returns : goal.returns
-returns c = written_apart

@@ -1,5 +1,0 @@
-use Rattle.cc_print.proofs.KeyTexts.{written_is_read}
-use Rattle.cc_print.proofs.laws.written_is_read.Goals as goal
-
-pub returns : goal.returns
-returns c = written_is_read

@@ -1,5 +1,0 @@
-use Rattle.cc_query.proofs.Rows.{resumed}
-use Rattle.cc_query.proofs.laws.listings_resume.Goals as goal
-
-pub returns : goal.returns
-returns c = resumed

@@ -1,5 +1,0 @@
-use Rattle.cc_query.proofs.SameRuns.{runs_told}
-use Rattle.cc_query.proofs.laws.texts_tell_runs.Goals as goal
-
-pub returns : goal.returns
-returns c = runs_told

@@ -1,5 +1,0 @@
-use Rattle.cc_sorts.proofs.Below.{below_least}
-use Rattle.cc_sorts.proofs.laws.below_is_least.Goals as goal
-
-pub returns : goal.returns
-returns c = below_least

@@ -1,5 +1,0 @@
-use Rattle.cc_sure.proofs.laws.sure_logs_are_accepted.Goals as goal
-use Rattle.cc_sure.proofs.Accepting.{logs_are_accepted}
-
-pub returns : goal.returns
-returns c = logs_are_accepted

@@ -1,5 +1,0 @@
-use Rattle.cc_syntax.proofs.Parsing.{one-tree}
-use Rattle.cc_syntax.proofs.laws.one_tree.Goals as goal
-
-pub returns : goal.returns
-returns c = one-tree

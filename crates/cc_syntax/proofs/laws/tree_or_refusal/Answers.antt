@@ -1,5 +1,0 @@
-use Rattle.cc_syntax.proofs.Statements.{tree-or-refusal}
-use Rattle.cc_syntax.proofs.laws.tree_or_refusal.Goals as goal
-
-pub returns : goal.returns
-returns c = tree-or-refusal

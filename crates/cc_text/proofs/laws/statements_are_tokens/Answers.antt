@@ -1,5 +1,0 @@
-use Rattle.cc_text.proofs.Statements.{statements_are}
-use Rattle.cc_text.proofs.laws.statements_are_tokens.Goals as goal
-
-pub returns : goal.returns
-returns c = statements_are

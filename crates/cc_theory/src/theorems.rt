@@ -1,0 +1,31 @@
+//! Theorems on models, each the contract of a function that does nothing, or calls those that it rests on.
+ghost use Rattle.cc_theory.specs.Laws.{ModelsArePaths, ModelsMeetCompletion};
+ghost use Rattle.cc_theory.specs.Theories.{LawsGiveRules};
+
+use cc_arena::theorems::{heads_mean_heads, heads_there_are_ground, terms_mean_formulas};
+use cc_arena::one_formula;
+
+/// The completion theorem: a row is a model of a horizon exactly where it meets the completion of its rules.
+pub fn models_meet_completion()
+    ensures { ModelsMeetCompletion }
+{
+    terms_mean_formulas();
+    one_formula();
+    heads_mean_heads();
+    heads_there_are_ground();
+}
+
+/// The path theorem: the models of a horizon are exactly the paths.
+pub fn models_are_paths()
+    ensures { ModelsArePaths }
+{
+    terms_mean_formulas();
+    one_formula();
+    heads_mean_heads();
+    heads_there_are_ground();
+}
+
+/// The rules that are made from ground laws are rules of their horizon, and those of each description with these laws.
+pub fn laws_give_rules()
+    ensures { LawsGiveRules }
+{}

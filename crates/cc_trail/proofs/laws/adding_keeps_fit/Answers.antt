@@ -1,5 +1,0 @@
-use Rattle.cc_trail.proofs.Adding.{fits_added}
-use Rattle.cc_trail.proofs.laws.adding_keeps_fit.Goals as goal
-
-pub returns : goal.returns
-returns c = fits_added

@@ -1,6 +1,0 @@
-use Rattle.cc_kernel.specs.Kernels.{clauses_of}
-use Rattle.cc_trail.proofs.Adding.{settled_added}
-use Rattle.cc_trail.proofs.laws.adding_keeps_settled.Goals as goal
-
-pub returns : goal.returns
-returns c trail old new clause is mild settled = settled_added trail.steps trail.level_count (clauses_of old) (clauses_of new) clause is mild settled

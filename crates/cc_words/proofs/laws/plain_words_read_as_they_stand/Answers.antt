@@ -1,5 +1,0 @@
-use Rattle.cc_words.proofs.Plain.{plain_reads}
-use Rattle.cc_words.proofs.laws.plain_words_read_as_they_stand.Goals as goal
-
-pub returns : goal.returns
-returns c = plain_reads
