@@ -2,8 +2,8 @@
 #![tactic(auto)]
 
 mod ground_laws;
-pub mod theorems;
 mod terms;
+pub mod theorems;
 
 pub use ground_laws::{GroundCondition, GroundLaw, GroundQuery, Laws};
 pub use terms::{Terms, one_formula, value};

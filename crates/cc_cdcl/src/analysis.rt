@@ -12,10 +12,10 @@ ghost use Rattle.cc_cdcl.specs.Derivations.{IsBackOver, IsDerived, IsDeriving, I
 ghost use Rattle.cc_cdcl.specs.Searches.{KeepsEntries};
 ghost use Rattle.cc_cdcl.specs.Solvers.{AddsBlock, AddsDerived};
 
-use crate::theorems::learned_is_earned;
 use crate::probe::Probe;
 use crate::redundancy::{DEEPEST, Mark, is_redundant};
 use crate::shortening::Shortening;
+use crate::theorems::learned_is_earned;
 use cc_defs::{Lit, OutOfMemory};
 use cc_kernel::{Kernel, Origin};
 use cc_trail::Trail;

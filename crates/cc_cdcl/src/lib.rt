@@ -8,7 +8,6 @@
 
 mod analysis;
 mod choice;
-pub mod theorems;
 mod order;
 mod places;
 mod probe;
@@ -16,5 +15,6 @@ mod redundancy;
 mod search;
 mod shortening;
 mod solver;
+pub mod theorems;
 
 pub use solver::{Solver, Step};

@@ -12,10 +12,10 @@ ghost use Rattle.cc_cdcl.specs.Solvers.{AreEarned, HasPositions, IsLeftByFailure
 
 use crate::analysis::{block, learn, refute};
 use crate::choice::{Cursor, true_value};
-use crate::theorems::{earned_lines_are_few, least_row_is_found};
 use crate::probe::Probe;
 use crate::search::{begin, count_line, search_on};
 use crate::shortening::Shortening;
+use crate::theorems::{earned_lines_are_few, least_row_is_found};
 use cc_defs::{Lit, OutOfMemory};
 use cc_kernel::{Kernel, Origin};
 use cc_trail::Trail;

@@ -8,13 +8,13 @@ mod entry;
 mod fault;
 mod front;
 mod judge;
-pub mod theorems;
 mod line;
 mod number;
 mod reader;
 mod sections;
 mod silent;
 mod text;
+pub mod theorems;
 
 pub use cc_log::{put_binary, put_line};
 pub use entry::{heading_in, read_entry};

@@ -2,8 +2,8 @@
 #![tactic(auto)]
 
 mod arena;
-pub mod theorems;
 mod resolution;
+pub mod theorems;
 
 pub use arena::ClauseArena;
 pub use resolution::{clash_on, resolve_into};

@@ -2,9 +2,9 @@
 #![tactic(auto)]
 
 mod held;
-pub mod theorems;
 mod lines;
 mod said;
+pub mod theorems;
 
 pub use lines::{LogLines, lines_of};
 pub use said::{behind_header, said_line, version_of};

@@ -11,7 +11,6 @@ mod event;
 mod formula;
 mod index;
 mod law;
-pub mod theorems;
 mod list;
 mod lists;
 mod literal;
@@ -21,6 +20,7 @@ mod refusal;
 mod rows;
 mod sig;
 mod signature;
+pub mod theorems;
 mod token;
 mod tree;
 

@@ -11,8 +11,8 @@ ghost use Rattle.cc_describe.specs.ProgressViews.{IsProgress, StopsAs};
 
 use crate::files::{Halt, read_file};
 use crate::heads::Heads;
-use crate::theorems::has_places;
 use crate::progress::Progress;
+use crate::theorems::has_places;
 use cc_defs::{BaseLaws, LimitAt, List, Name, Names, OutOfMemory, Queries, Refusal, Sig};
 use cc_laws::theorems::{
     constants_have_forms, laws_have_forms, queries_have_formulas, wide_constants_have_forms,

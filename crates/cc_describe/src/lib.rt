@@ -5,8 +5,8 @@ mod description;
 mod files;
 mod heads;
 mod labels;
-pub mod theorems;
 mod progress;
+pub mod theorems;
 
 pub use description::{DescribeStop, Described, DescribedWide, describe, describe_with};
 pub use heads::Heads;

@@ -4,10 +4,10 @@
 mod cnf;
 mod export;
 mod form;
-pub mod theorems;
 mod lines;
 mod progress;
 mod read;
+pub mod theorems;
 mod words;
 
 pub use cnf::{Clauses, Cnf};

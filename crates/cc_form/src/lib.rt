@@ -7,7 +7,6 @@ mod defining;
 mod draft;
 mod form;
 mod groups;
-pub mod theorems;
 mod moving;
 mod places;
 mod rules;
@@ -15,6 +14,7 @@ mod section;
 mod steps;
 mod store;
 mod template;
+pub mod theorems;
 mod writer;
 
 pub use builder::Builder;

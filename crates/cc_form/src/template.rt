@@ -21,10 +21,10 @@ ghost use Rattle.cc_form.specs.Steps.{AreOverSteps, AreSteps, CanPlace, IsFormAt
 
 use crate::draft::write_first;
 use crate::form::{Form, add_query, clauses, close};
-use crate::theorems::clauses_tell_rows;
 use crate::moving::{Way, place};
 use crate::steps::{Steps, steps_of};
 use crate::store::Store;
+use crate::theorems::clauses_tell_rows;
 use crate::writer::Writer;
 use cc_arena::theorems::terms_mean_formulas;
 use cc_arena::{GroundQuery, Laws, one_formula};

@@ -2,8 +2,8 @@
 ghost use Rattle.cc_form.specs.Laws.{ClausesTellRows};
 ghost use Rattle.cc_form.specs.ListLaws.{ListsTellHistories};
 
-use cc_arena::theorems::terms_mean_formulas;
 use cc_arena::one_formula;
+use cc_arena::theorems::terms_mean_formulas;
 use cc_theory::theorems::{laws_give_rules, models_are_paths, models_meet_completion};
 
 /// The rows that meet the clauses of rules, conditions, a claim that is denied, and a key, are those that meet the completion

@@ -5,9 +5,9 @@
 mod check;
 mod general;
 mod halt;
-pub mod theorems;
 mod phase;
 mod queue;
+pub mod theorems;
 mod turn;
 mod turns;
 mod verdict;

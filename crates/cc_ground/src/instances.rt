@@ -21,11 +21,11 @@ use crate::choosing::choices_of_laws;
 use crate::conditions::passes;
 use crate::counting::{choice_count, count_all};
 use crate::heads::head_under;
+use crate::maker::{Halt, Maker, fault_of, narrow};
+use crate::pairs::boolean_actions_of;
 use crate::theorems::{
     declared_have_own_values, declared_have_their_kinds, declared_have_their_values,
 };
-use crate::maker::{Halt, Maker, fault_of, narrow};
-use crate::pairs::boolean_actions_of;
 use crate::values::values_in_range;
 use cc_arena::theorems::{ground_laws_fit, ground_laws_mean_laws, heads_there_are_ground};
 use cc_arena::{GroundLaw, Laws, Terms};

@@ -10,7 +10,6 @@ mod counting;
 mod heads;
 mod instances;
 mod judged;
-pub mod theorems;
 mod maker;
 mod outermost;
 mod pairs;
@@ -18,6 +17,7 @@ mod pieces;
 mod queries;
 mod sides;
 mod sums;
+pub mod theorems;
 mod values;
 
 pub use instances::ground;

@@ -16,8 +16,8 @@ ghost use Rattle.cc_ground.specs.Views.{IsLike, LacksRoom, fault_by, universe_in
 ghost use Rattle.cc_sorts.specs.Tables.{IsSignatureFor};
 
 use crate::choosing::choices_of_asked;
-use crate::theorems::declared_have_own_values;
 use crate::maker::{Halt, Maker, fault_of};
+use crate::theorems::declared_have_own_values;
 use cc_arena::theorems::{ground_queries_fit, ground_queries_mean_queries};
 use cc_arena::{GroundCondition, GroundQuery, Terms};
 use cc_defs::{Condition, Fault, LimitAt, List, Query, Refusal, Sig};

@@ -26,8 +26,8 @@ use cc_arena::{GroundQuery, Laws, Terms};
 use cc_defs::{Fault, Key, Query, Refusal, Sig};
 use cc_describe::Described;
 use cc_laws::query_steps;
-use cc_print::theorems::one_key;
 use cc_print::read_key;
+use cc_print::theorems::one_key;
 use cc_query::fits;
 use std::alloc::Global;
 

@@ -4,10 +4,10 @@
 
 mod asked;
 mod asking;
-pub mod theorems;
 mod listing;
 mod running;
 mod searching;
+pub mod theorems;
 
 pub use asked::{laws_of, query_of};
 pub use asking::{Prepared, prepare, query_asked, query_named};

@@ -3,8 +3,8 @@
 #![tactic(auto)]
 
 mod binary;
-pub mod theorems;
 mod put;
+pub mod theorems;
 
 pub use binary::put_binary;
 pub use put::put_line;

@@ -4,10 +4,10 @@
 mod atoms;
 mod histories;
 mod keys;
-pub mod theorems;
 mod models;
 mod summaries;
 mod texts;
+pub mod theorems;
 mod verdicts;
 
 pub use atoms::atom_text;

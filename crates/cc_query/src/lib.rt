@@ -4,12 +4,12 @@
 
 mod ask;
 mod keys;
-pub mod theorems;
 mod lists;
 mod opening;
 mod phase;
 mod session;
 mod shared;
+pub mod theorems;
 
 pub use ask::Ask;
 pub use keys::{fits, is_row};

@@ -30,11 +30,11 @@ ghost use Rattle.cc_query.specs.declared.phase.Phase.TheVariants as phases;
 ghost use Rattle.cc_theory.specs.Theories.{AreLawsFor};
 
 use crate::ask::Ask;
-use crate::theorems::search_laws;
 use crate::lists::Lists;
 use crate::opening::{denies_claim, solver_of};
 use crate::phase::{Part, Phase};
 use crate::shared::{block_line, budget_of, derived_line, is_asked, is_refuted};
+use crate::theorems::search_laws;
 use cc_arena::{GroundQuery, Laws};
 use cc_cdcl::{Solver, Step};
 use cc_defs::{EndWord, Ending, Event, Fault, Key, LimitAt, LogLine, OutOfMemory, Refusal, Sig};

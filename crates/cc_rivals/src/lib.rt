@@ -5,10 +5,10 @@ mod candidate;
 mod candidate_clauses;
 mod counting;
 mod draft;
-pub mod theorems;
 mod positions;
 mod putting;
 mod rival_clauses;
+pub mod theorems;
 mod timed;
 mod walk;
 

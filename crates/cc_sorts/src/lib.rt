@@ -5,7 +5,6 @@ mod declaration;
 mod dictionary;
 mod entering;
 mod fault;
-pub mod theorems;
 mod left;
 mod lists;
 mod numbers;
@@ -16,5 +15,6 @@ mod shown;
 mod signature;
 mod sorts;
 mod table;
+pub mod theorems;
 
 pub use table::Table;

@@ -5,9 +5,9 @@
 mod answer;
 mod check;
 mod examples;
-pub mod theorems;
 mod phase;
 mod sure;
+pub mod theorems;
 mod verdict;
 
 pub use answer::{Answer, SureEvent};

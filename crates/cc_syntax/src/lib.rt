@@ -8,13 +8,13 @@ mod declarations;
 mod formulas;
 mod frames;
 mod items;
-pub mod theorems;
 mod operators;
 mod queries;
 mod reading;
 mod statement;
 mod stop;
 mod terms;
+pub mod theorems;
 mod tokens;
 mod words;
 

@@ -5,9 +5,9 @@
 
 mod classes;
 mod fronts;
-pub mod theorems;
 mod marks;
 mod scanner;
+pub mod theorems;
 mod tokens;
 
 pub use tokens::Tokens;

@@ -4,9 +4,9 @@
 mod counting;
 mod groups;
 mod index;
-pub mod theorems;
 mod making;
 mod rule;
+pub mod theorems;
 mod theory;
 
 pub use counting::are_rules_few;

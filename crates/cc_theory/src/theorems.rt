@@ -2,8 +2,8 @@
 ghost use Rattle.cc_theory.specs.Laws.{ModelsArePaths, ModelsMeetCompletion};
 ghost use Rattle.cc_theory.specs.Theories.{LawsGiveRules};
 
-use cc_arena::theorems::{heads_mean_heads, heads_there_are_ground, terms_mean_formulas};
 use cc_arena::one_formula;
+use cc_arena::theorems::{heads_mean_heads, heads_there_are_ground, terms_mean_formulas};
 
 /// The completion theorem: a row is a model of a horizon exactly where it meets the completion of its rules.
 pub fn models_meet_completion()

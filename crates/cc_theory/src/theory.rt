@@ -14,9 +14,9 @@ ghost use Rattle.cc_theory.specs.Theories.{AreLawsOf, AreLawsFor, AreRulesAt, Is
 use crate::counting::rule_count;
 use crate::groups::group;
 use crate::index::{Index, index_of, place};
-use crate::theorems::{models_are_paths, models_meet_completion};
 use crate::making::all_rules;
 use crate::rule::{TimedHead, TimedRule};
+use crate::theorems::{models_are_paths, models_meet_completion};
 use cc_arena::{GroundLaw, Laws};
 use cc_defs::{Fault, LimitAt, Refusal, Sig};
 use std::alloc::Global;

@@ -4,11 +4,11 @@
 #![tactic(auto)]
 
 mod entries;
-pub mod theorems;
 mod links;
 mod nodes;
 mod pairs;
 mod propagation;
+pub mod theorems;
 mod trail;
 mod visits;
 mod watches;

@@ -22,11 +22,11 @@
 
 mod asked;
 mod given;
-pub mod theorems;
 mod modes;
 mod names;
 mod numbers;
 mod parse;
+pub mod theorems;
 mod words;
 
 pub use asked::{

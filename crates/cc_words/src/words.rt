@@ -6,8 +6,8 @@ ghost use Rattle.cc_words.specs.Views.{plain_asked};
 ghost use Rattle.cc_words.specs.Words.{IsPlain, Pair, Text, given_of};
 
 use crate::asked::Asked;
-use crate::theorems::plain_words_read_as_they_stand;
 use crate::parse::asked_by;
+use crate::theorems::plain_words_read_as_they_stand;
 use cc_defs::OutOfMemory;
 use std::alloc::Global;
 
