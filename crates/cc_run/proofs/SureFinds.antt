@@ -14,12 +14,12 @@ use Rattle.cc_ports.specs.Moments.{Moment}
 use Rattle.cc_list.specs.Asking.{AreOf}
 use Rattle.cc_run.specs.Modes.Surely.{EndsSurely}
 use Rattle.cc_run.specs.Sures.{IsSureOfSome, IsWritableRun, TellsEvent, TellsRun, TellsSure, surely_given}
-use Rattle.cc_sure.specs.declared.answer.SureEvent.{SureEvent}
-use Rattle.cc_sure.specs.declared.answer.SureEvent.TheVariants as events
+use Rattle.cc_sure.specs.declared.turn.SureTurn.{SureTurn}
+use Rattle.cc_sure.specs.declared.turn.SureTurn.TheVariants as events
 use Rattle.cc_sure.specs.declared.phase.Phase.{Phase}
 use Rattle.cc_sure.specs.declared.phase.Phase.TheVariants as phases
 use Rattle.cc_sure.specs.SureRuns.{IsFairSure, ReachesSureLimit, SureRun, sure_horizon}
-use Rattle.cc_sure.specs.Sures.{Awaits, GoesOn, HasMore, IsFewEvent, IsGoodEvent, IsSame, IsShortEvent, IsSureOf, Stands, SureView, TellsNext, left_of, nothing_told}
+use Rattle.cc_sure.specs.Sures.{Awaits, GoesOn, HasMore, IsFewTurn, IsGoodTurn, IsSame, IsShortTurn, IsSureOf, Stands, SureView, TellsNext, left_of, nothing_told}
 use Rattle.cc_sure.specs.SureTold.{sure_header, sure_log, sure_told}
 use Rattle.cc_tell.specs.declared.status.Status.{Status}
 use Rattle.cc_tell.specs.declared.status.Status.TheVariants as statuses
@@ -53,8 +53,8 @@ always (Ok x) p = p x
 always (Err stop) p = tt
 
 module _ (d : Description) (q : Query) (run : SureRun) (old new : SureView) (more : HasMore old) (stands : Stands d q old run) where
-  pub event_told : (event : SureEvent) (horizon : ℕ) (x y : Moment) (r : Result (Option Status) Stop) → TellsNext d q new run event → IsSame old new → GoesOn new event →
-      IsShortEvent event → IsFewEvent event → IsGoodEvent d q new.horizon event → horizon ≡ new.horizon → Step (given_of d horizon event) x y r → IfOk r (λ status. status ≡ status_behind event) → TellsEvent d q old.budget run new x y r
+  pub event_told : (event : SureTurn) (horizon : ℕ) (x y : Moment) (r : Result (Option Status) Stop) → TellsNext d q new run event → IsSame old new → GoesOn new event →
+      IsShortTurn event → IsFewTurn event → IsGoodTurn d q new.horizon event → horizon ≡ new.horizon → Step (given_of d horizon event) x y r → IfOk r (λ status. status ≡ status_behind event) → TellsEvent d q old.budget run new x y r
   event_told event horizon x y r (after, told, is, all, next) same goes short few good at step status = record {
     next = after;
     ends = status_behind event;
@@ -70,7 +70,7 @@ module _ (d : Description) (q : Query) (run : SureRun) (old new : SureView) (mor
     ended = status_is r (status_behind event) status;
     keeps = always r (λ s none. next);
     writes = λ written. more_written d q old.budget run after told stands.fair fair (going_on run old.phase more stands.awaits) all written
-        (event_written d q (sure_horizon q after) event told is short few (subst (λ (h : ℕ). IsGoodEvent d q h event) next.at.horizon good));
+        (event_written d q (sure_horizon q after) event told is short few (subst (λ (h : ℕ). IsGoodTurn d q h event) next.at.horizon good));
   }
     where
       fair : IsFairSure d q old.budget after
@@ -122,7 +122,7 @@ module _ (d : Description) (q : Query) (run : SureRun) (old new : SureView) (mor
   }
 
 -- behind an event that is not the last more is to come
-pub goes_next : (old new : SureView) (event : SureEvent) (r : Result (Option Status) Stop) → GoesOn new event → left_of new < left_of old →
+pub goes_next : (old new : SureView) (event : SureTurn) (r : Result (Option Status) Stop) → GoesOn new event → left_of new < left_of old →
     IfOk r (λ status. status ≡ status_behind event) → IfOk r (λ status. IsNone status → HasMore new × (left_of new < left_of old))
 goes_next old new event (Err stop) goes less is = tt
 goes_next old new (events.NoHistory empty) (Ok status) goes less is = λ none. (goes, less)

@@ -20,12 +20,12 @@ use Rattle.cc_print.specs.Atoms.{IsAtomOf}
 use Rattle.cc_query.specs.Parts.{section_lines}
 use Rattle.cc_run.specs.Modes.Surely.{EndsSurely, sure_line}
 use Rattle.cc_run.specs.Sures.{IsWritableRun, surely_given}
-use Rattle.cc_sure.specs.declared.answer.SureEvent.{SureEvent}
-use Rattle.cc_sure.specs.declared.answer.SureEvent.TheVariants as events
+use Rattle.cc_sure.specs.declared.turn.SureTurn.{SureTurn}
+use Rattle.cc_sure.specs.declared.turn.SureTurn.TheVariants as events
 use Rattle.cc_sure.specs.Sought.{IsSought, PassesNoLimit, Sought, Any, With}
 use Rattle.cc_sure.specs.SureRuns.{AreTrueSettled, AreTrueTried, IsFairSure, Settled, SureEnding, Complete, NoneAtAll, Spent, SureRun, Tried, Known, Shown, Never, settled_examples, shown_at, sought_next, sure_horizon}
 use Rattle.cc_sure.specs.Accepted.{IsWritableTold}
-use Rattle.cc_sure.specs.Sures.{GoesOn, IsFewEvent, IsGoodEvent, IsOver, IsShortEvent, IsSureEvent, SureView, sought_atom}
+use Rattle.cc_sure.specs.Sures.{GoesOn, IsFewTurn, IsGoodTurn, IsOver, IsShortTurn, IsSureTurn, SureView, sought_atom}
 use Rattle.cc_sure.specs.SureTold.{SureTold, NoneAt, ExampleIs, NeverSo, AnswersAre, Ends, atom_heading, none_told, settled_told, sought_heading, sure_header, sure_lines, sure_told, tried_told}
 use Rattle.cc_tell_modes.specs.SureTexts.{ending_line, IsPrintable, given_of, heading_of, status_behind}
 use Rattle.cc_tell.specs.Givens.{given_to, Given, joined}
@@ -108,7 +108,7 @@ all_true d q budget run fair =
 
 -- ---- what an event says
 
-abbrev Says : SureEvent → SureTold → Type 0
+abbrev Says : SureTurn → SureTold → Type 0
 Says (events.NoHistory horizon) told = told ≡ NoneAt horizon
 Says (events.Example number row) told = told ≡ ExampleIs number row
 Says (events.Impossible position value lines) told = (section : Section) × (lines ≡ section_lines section) × (told ≡ NeverSo position value section)
@@ -117,7 +117,7 @@ Says events.Complete told = (sought : Sought) × (told ≡ Ends sought Complete)
 Says events.NoneAtAll told = (sought : Sought) × (told ≡ Ends sought NoneAtAll)
 Says (events.Spent atom lines) told = (sought : Sought) × (section : Section) × (atom ≡ sought_atom sought) × (lines ≡ section_lines section) × (told ≡ Ends sought (Spent section))
 
-is_of : (event : SureEvent) (told : SureTold) → IsSureEvent event told → Says event told
+is_of : (event : SureTurn) (told : SureTold) → IsSureTurn event told → Says event told
 is_of (events.NoHistory horizon) (NoneAt empty) is = ap NoneAt (sym is)
 is_of (events.NoHistory horizon) (ExampleIs count shown) is = absurd is
 is_of (events.NoHistory horizon) (NeverSo at index section) is = absurd is
@@ -193,8 +193,8 @@ atom_of law d signature of horizon position size at value low =
     let constant = from_map (λ (c : Const). length c.domain) (slice_get (ground_constants signature) (position % length (ground_constants signature))) size (sym (here.1 position there) ∙ at) in
     record { constant = constant.0; found = constant.1; within = subst (λ (n : ℕ). value < n) (sym constant.2) low }
 
-printable_of : PositionsHaveSizes → (d : Description) (signature : Signature) → IsSignatureOfDescription d signature → (horizon : ℕ) (event : SureEvent) (told : SureTold) →
-    Says event told → IsTrueTold d horizon told → IsShortEvent event → IsFewEvent event → IsPrintable signature horizon event
+printable_of : PositionsHaveSizes → (d : Description) (signature : Signature) → IsSignatureOfDescription d signature → (horizon : ℕ) (event : SureTurn) (told : SureTold) →
+    Says event told → IsTrueTold d horizon told → IsShortTurn event → IsFewTurn event → IsPrintable signature horizon event
 printable_of law d signature of horizon (events.NoHistory empty) told is true_told short few = tt
 printable_of law d signature of horizon (events.Example number row) told is true_told short few = λ other of_other.
     subst (λ (sizes : List ℕ). IsRow sizes row) (same_sizes d other signature of of_other horizon) (subst (IsTrueTold d horizon) is true_told)
@@ -207,8 +207,8 @@ printable_of law d signature of horizon (events.Spent atom lines) told is true_t
 
 -- the event behind what a fair run told
 pub event_printable : PositionsHaveSizes → (d : Description) (q : Query) (budget : ℕ) (signature : Signature) → IsSignatureOfDescription d signature →
-    (before : List SureTold) (after : SureRun) (horizon : ℕ) (event : SureEvent) (told : SureTold) → IsFairSure d q budget after → horizon ≡ sure_horizon q after →
-    IsSureEvent event told → sure_told q after ≡ before ++ told ∷ [] → IsShortEvent event → IsFewEvent event → IsPrintable signature horizon event
+    (before : List SureTold) (after : SureRun) (horizon : ℕ) (event : SureTurn) (told : SureTold) → IsFairSure d q budget after → horizon ≡ sure_horizon q after →
+    IsSureTurn event told → sure_told q after ≡ before ++ told ∷ [] → IsShortTurn event → IsFewTurn event → IsPrintable signature horizon event
 event_printable law d q budget signature of before after horizon event told fair at is all short few =
     printable_of law d signature of horizon event told (is_of event told is)
     (subst (λ (h : ℕ). IsTrueTold d h told) (sym at)
@@ -216,7 +216,7 @@ event_printable law d q budget signature of before after horizon event told fair
 
 -- ---- what is told can be written
 
-written : (d : Description) (q : Query) (horizon : ℕ) (event : SureEvent) (told : SureTold) → Says event told → IsShortEvent event → IsFewEvent event → IsGoodEvent d q horizon event →
+written : (d : Description) (q : Query) (horizon : ℕ) (event : SureTurn) (told : SureTold) → Says event told → IsShortTurn event → IsFewTurn event → IsGoodTurn d q horizon event →
     IsWritableTold d q horizon told
 written d q horizon (events.NoHistory empty) told is short few good = subst (IsWritableTold d q horizon) (sym is) tt
 written d q horizon (events.Example number row) told is short few good = subst (IsWritableTold d q horizon) (sym is) tt
@@ -228,8 +228,8 @@ written d q horizon events.Complete told is short few good = subst (IsWritableTo
 written d q horizon events.NoneAtAll told is short few good = subst (IsWritableTold d q horizon) (sym is.1) tt
 written d q horizon (events.Spent atom lines) told is short few good = subst (IsWritableTold d q horizon) (sym is.4) tt
 
-pub event_written : (d : Description) (q : Query) (horizon : ℕ) (event : SureEvent) (told : SureTold) → IsSureEvent event told → IsShortEvent event → IsFewEvent event →
-    IsGoodEvent d q horizon event → IsWritableTold d q horizon told
+pub event_written : (d : Description) (q : Query) (horizon : ℕ) (event : SureTurn) (told : SureTold) → IsSureTurn event told → IsShortTurn event → IsFewTurn event →
+    IsGoodTurn d q horizon event → IsWritableTold d q horizon told
 event_written d q horizon event told is = written d q horizon event told (is_of event told is)
 
 -- ---- what is given of an event is what is told of it
@@ -241,7 +241,7 @@ heading_is : (horizon : ℕ) (sought : Sought) → heading_of horizon (sought_at
 heading_is horizon Any = refl
 heading_is horizon (With position value) = refl
 
-said_given : (d : Description) (horizon : ℕ) (event : SureEvent) (told : SureTold) → Says event told → given_of d horizon event ≡ told_at d horizon told
+said_given : (d : Description) (horizon : ℕ) (event : SureTurn) (told : SureTold) → Says event told → given_of d horizon event ≡ told_at d horizon told
 said_given d horizon (events.NoHistory empty) told is = ap (told_at d horizon) (sym is)
 said_given d horizon (events.Example number row) told is =
     ap (given_to outputs.Out) (sym (append_assoc (of_horizon horizon (codes "example " ++ decimal number)) (history_text d horizon row) (key_line horizon row))) ∙ ap (told_at d horizon) (sym is)
@@ -255,7 +255,7 @@ said_given d horizon (events.Spent atom lines) told (sought, section, atom_is, l
     ∙ (ap (λ heading. record { out = ending_line (Spent section); err = []; log = heading ++ flat_map line_text (section_lines section) }) (heading_is horizon sought)
     ∙ ap (told_at d horizon) (sym is))
 
-pub event_given : (d : Description) (horizon : ℕ) (event : SureEvent) (told : SureTold) → IsSureEvent event told → given_of d horizon event ≡ told_at d horizon told
+pub event_given : (d : Description) (horizon : ℕ) (event : SureTurn) (told : SureTold) → IsSureTurn event told → given_of d horizon event ≡ told_at d horizon told
 event_given d horizon event told is = said_given d horizon event told (is_of event told is)
 
 -- ---- the ending
@@ -288,7 +288,7 @@ ending_is q before after sought ending all ended = by_ending after.ending ended 
         is ∙ ap Some (same_end one ending (sought_next after after.first) sought
         (some_of last (Ends sought ending) (sym (last_is front last) ∙ (ap last_of (whole ∙ all) ∙ last_is before (Ends sought ending)))))
 
-said_ends : (d : Description) (q : Query) (budget : ℕ) (before : List SureTold) (after : SureRun) (event : SureEvent) (told : SureTold) (sure : SureView) → Says event told →
+said_ends : (d : Description) (q : Query) (budget : ℕ) (before : List SureTold) (after : SureRun) (event : SureTurn) (told : SureTold) (sure : SureView) → Says event told →
     sure_told q after ≡ before ++ told ∷ [] → GoesOn sure event → (IsOver sure → IsSome after.ending) → EndsSurely d q budget after [] (status_behind event)
 said_ends d q budget before after (events.NoHistory empty) told sure is all goes over = refl
 said_ends d q budget before after (events.Example number row) told sure is all goes over = refl
@@ -302,7 +302,7 @@ said_ends d q budget before after (events.Spent atom lines) told sure (sought, s
     inl (Spent section, ending_is q before after sought (Spent section) (all ∙ ap (λ t. before ++ t ∷ []) is) (over goes), refl, refl)
 
 -- the run ends as its last event says
-pub ends_so : (d : Description) (q : Query) (budget : ℕ) (before : List SureTold) (after : SureRun) (event : SureEvent) (told : SureTold) (sure : SureView) → IsSureEvent event told →
+pub ends_so : (d : Description) (q : Query) (budget : ℕ) (before : List SureTold) (after : SureRun) (event : SureTurn) (told : SureTold) (sure : SureView) → IsSureTurn event told →
     sure_told q after ≡ before ++ told ∷ [] → GoesOn sure event → (IsOver sure → IsSome after.ending) → EndsSurely d q budget after [] (status_behind event)
 ends_so d q budget before after event told sure is = said_ends d q budget before after event told sure (is_of event told is)
 

@@ -23,14 +23,14 @@ use Rattle.cc_search.specs.declared.least.Outcome.{Outcome}
 use Rattle.cc_search.specs.declared.least.Outcome.TheVariants as outcomes
 use Rattle.cc_search.specs.Outcomes.{IsEnded, IsOutcome}
 use Rattle.cc_sure.specs.declared.answer.Answer.{Answer}
-use Rattle.cc_sure.specs.declared.answer.SureEvent.{SureEvent}
-use Rattle.cc_sure.specs.declared.answer.SureEvent.TheVariants as events
+use Rattle.cc_sure.specs.declared.turn.SureTurn.{SureTurn}
+use Rattle.cc_sure.specs.declared.turn.SureTurn.TheVariants as events
 use Rattle.cc_sure.specs.declared.phase.Phase.TheVariants as phases
 use Rattle.cc_sure.specs.Outcomes.{AreAnswersFor, SomeHas}
 use Rattle.cc_sure.specs.Sought.{HasValue, IsAtomAt, IsSought, Any, With, PassesNoLimit, sought_axioms}
 use Rattle.cc_sure.specs.SureRuns.{Settled, SureEnding, Complete, NoneAtAll, Spent, SureRun, Tried, Known, Shown, Never, IsFairSure, IsNew, IsTrueTried, LooksFor, MayEndSure, examples_of, settled_examples, shown_by, shown_in}
 use Rattle.cc_sure.specs.SureTold.{SureTold, NoneAt, ExampleIs, NeverSo, AnswersAre, Ends, sure_told}
-use Rattle.cc_sure.specs.Sures.{AreFewTried, Gives, IsAsking, IsAt, IsFormOf, IsOpened, IsOver, IsSureEvent, IsSureOf, PassesTo, Stands, SureView, TellsNext, Awaits, is_never, left_at, left_of}
+use Rattle.cc_sure.specs.Sures.{AreFewTried, Gives, IsAsking, IsAt, IsFormOf, IsOpened, IsOver, IsSureTurn, IsSureOf, PassesTo, Stands, SureView, TellsNext, Awaits, is_never, left_at, left_of}
 use Rattle.cc_sure.proofs.Answering.{behind_cases, examples_still, settled_so}
 use Rattle.cc_sure.proofs.Atoms.{has_of}
 use Rattle.cc_sure.proofs.Opening.{any_ended, atom_ended, atom_found, atom_within, first_found, none_found}
@@ -38,7 +38,7 @@ use Rattle.cc_sure.proofs.Runs.{IsEmptyAt, adds, asking_stands, at_first, begins
 use Rattle.cc_sure.proofs.Told.{shown_more}
 use Rattle.cc_theory.specs.Theories.{AreLawsOf}
 
-pub gives_at : (old new expected : SureView) (event : SureEvent) → new ≡ expected → Gives old expected event → Gives old new event
+pub gives_at : (old new expected : SureView) (event : SureTurn) → new ≡ expected → Gives old expected event → Gives old new event
 gives_at old new expected event is gives = subst (λ (s : SureView). Gives old s event) (sym is) gives
 
 -- ---- sizes
@@ -98,7 +98,7 @@ module _ (now : SureView) where
   low_at d q empty of at low = let range = range_is looking d q of in let hi = range.1 in omega arith
 
   -- what is told behind a run of this shape is told behind the run
-  tells_looking : (new : SureView) (event : SureEvent) → ((d : Description) (q : Query) → IsSureOf looking d q → (empty : ℕ) → IsFairSure d q now.budget (at_first empty) →
+  tells_looking : (new : SureView) (event : SureTurn) → ((d : Description) (q : Query) → IsSureOf looking d q → (empty : ℕ) → IsFairSure d q now.budget (at_first empty) →
       now.horizon ≡ (range_of q).0 + empty → TellsNext d q new (at_first empty) event) →
       (d : Description) (q : Query) (run : SureRun) → IsSureOf looking d q → Stands d q looking run → TellsNext d q new run event
   tells_looking new event tells d q run of stands =
@@ -106,9 +106,9 @@ module _ (now : SureView) where
       subst (λ (r : SureRun). TellsNext d q new r event) (sym same) (tells d q of empty fair horizon)
 
   -- an ending
-  ends_looking : (ending : SureEnding) (event : SureEvent) → IsOver now →
+  ends_looking : (ending : SureEnding) (event : SureTurn) → IsOver now →
       ((d : Description) (q : Query) → IsSureOf looking d q → (empty : ℕ) → IsFairSure d q now.budget (at_first empty) → now.horizon ≡ (range_of q).0 + empty → MayEndSure d q now.budget (at_first empty) ending) →
-      IsSureEvent event (Ends Any ending) → now.position ≡ 0 → now.examples ≡ [] → now.never ≡ [] →
+      IsSureTurn event (Ends Any ending) → now.position ≡ 0 → now.examples ≡ [] → now.never ≡ [] →
       (d : Description) (q : Query) (run : SureRun) → IsSureOf looking d q → Stands d q looking run → TellsNext d q now run event
   ends_looking ending event over may is position examples never = tells_looking now event (λ d q of empty fair horizon. (
     record (at_first empty) { ending = Some ending },
@@ -152,10 +152,10 @@ module _ (now : SureView) where
 
   pub pass_gives : (now.horizon ≤ now.query.hi) → now.horizon ≤ 1000 → now.examples ≡ [] → now.position ≡ 0 → now.never ≡ [] → (form : Axioms) → IsOpened now form → (lines : List LogLine) →
       IsOutcome form now.budget (outcomes.Empty lines) → (new : SureView) → new ≡ record now { horizon = now.horizon + 1; phase = phases.Looking } →
-      (event : SureEvent) → event ≡ events.NoHistory now.horizon → Gives looking new event
+      (event : SureTurn) → event ≡ events.NoHistory now.horizon → Gives looking new event
   pass_gives low most examples position never form opened lines ended new new_is event event_is =
       let after : SureView = record now { horizon = now.horizon + 1; phase = phases.Looking } in
-      gives_at looking new after event new_is (subst (λ (e : SureEvent). Gives looking after e) (sym event_is) (record {
+      gives_at looking new after event new_is (subst (λ (e : SureTurn). Gives looking after e) (sym event_is) (record {
         tells = tells_looking after (events.NoHistory now.horizon) (λ d q of empty fair horizon. (
           at_first (empty + 1),
           NoneAt ((range_of q).0 + empty),
@@ -242,7 +242,7 @@ module _ (now : SureView) (form : Axioms) (is : IsAsking now form) where
   pub low_of : (d : Description) (q : Query) (empty : ℕ) → IsSureOf asking d q → now.horizon ≡ (range_of q).0 + empty → (range_of q).0 + empty ≤ (range_of q).1
   low_of d q empty of at = let range = range_is asking d q of in let hi = range.1 in let low = is.low in omega arith
 
-  tells_asking : (new : SureView) (event : SureEvent) → ((d : Description) (q : Query) → IsSureOf asking d q → (empty : ℕ) (row : List ℕ) (done : List Settled) (next : List Tried) →
+  tells_asking : (new : SureView) (event : SureTurn) → ((d : Description) (q : Query) → IsSureOf asking d q → (empty : ℕ) (row : List ℕ) (done : List Settled) (next : List Tried) →
       IsFairSure d q now.budget (going empty row done next) → IsAt q now (going empty row done next) → TellsNext d q new (going empty row done next) event) →
       (d : Description) (q : Query) (run : SureRun) → IsSureOf asking d q → Stands d q asking run → TellsNext d q new run event
   tells_asking new event tells d q run of stands =
@@ -310,10 +310,10 @@ module _ (now : SureView) (form : Axioms) (is : IsAsking now form) where
     }
 
     -- what a value that was tried tells
-    tried_tells : (tried : Tried) (never : Bool) (examples : List (List ℕ)) (event : SureEvent) → is_never tried ≡ never → examples ≡ now.examples ++ shown_by tried →
+    tried_tells : (tried : Tried) (never : Bool) (examples : List (List ℕ)) (event : SureTurn) → is_never tried ≡ never → examples ≡ now.examples ++ shown_by tried →
         ((d : Description) (q : Query) → IsSureOf asking d q → (empty : ℕ) (row : List ℕ) (done : List Settled) (next : List Tried) → IsAt q now (going empty row done next) →
         IsTrueTried d q now.budget ((range_of q).0 + empty) (examples_of (going empty row done next)) (length done) (length next) tried
-        × ((told : SureTold) × IsSureEvent event told × (adds q empty row done next tried ≡ told ∷ []))) →
+        × ((told : SureTold) × IsSureTurn event told × (adds q empty row done next tried ≡ told ∷ []))) →
         (d : Description) (q : Query) (run : SureRun) → IsSureOf asking d q → Stands d q asking run →
         TellsNext d q (record now { never = now.never ++ never ∷ []; examples = examples; phase = phases.Asking form }) run event
     tried_tells tried never examples event never_is examples_is each =

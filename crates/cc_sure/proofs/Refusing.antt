@@ -14,7 +14,7 @@ use Rattle.cc_defs.specs.Sections.{Axioms}
 use Rattle.cc_form.specs.Building.{count_refusal}
 use Rattle.cc_form.specs.Forms.{section_refusal, with_atom}
 use Rattle.cc_query.proofs.AcceptedLines.{all_append}
-use Rattle.cc_sure.specs.declared.answer.SureEvent.{SureEvent}
+use Rattle.cc_sure.specs.declared.turn.SureTurn.{SureTurn}
 use Rattle.cc_sure.specs.declared.phase.Phase.TheVariants as phases
 use Rattle.cc_sure.specs.Sought.{With, sought_refusal}
 use Rattle.cc_sure.specs.SureRuns.{Settled, SureRun, Tried, Known, AreTrueTried, IsNew, IsToSearch, ReachesSureLimit, settled_examples, sought_next, sure_horizon}
@@ -98,7 +98,7 @@ module _ (form : Axioms) (now mid : SureView) (is : IsAsking now form) (passes :
       let more = passes.more in
       subst (λ (s : SureView). left_of (record s { phase = phases.Asking form }) ≤ left_of (record now { phase = phases.Asking form })) (sym passes.new_is) (omega arith)
 
-  pub gives_behind : (r : Result SureEvent Fault) (new : SureView) → IfOk r (Gives (record mid { phase = phases.Asking form }) new) → IfOk r (Gives (record now { phase = phases.Asking form }) new)
+  pub gives_behind : (r : Result SureTurn Fault) (new : SureView) → IfOk r (Gives (record mid { phase = phases.Asking form }) new) → IfOk r (Gives (record now { phase = phases.Asking form }) new)
   gives_behind (Err fault) new gives = tt
   gives_behind (Ok event) new gives = record {
     tells = λ d q run of stands.
@@ -112,7 +112,7 @@ module _ (form : Axioms) (now mid : SureView) (is : IsAsking now form) (passes :
     good = λ d q of. gives.good d q (of_behind d q of);
   }
 
-  pub refuses_behind : (r : Result SureEvent Fault) → IfErr r (IsRightFault (record mid { phase = phases.Asking form })) → IfErr r (IsRightFault (record now { phase = phases.Asking form }))
+  pub refuses_behind : (r : Result SureTurn Fault) → IfErr r (IsRightFault (record mid { phase = phases.Asking form })) → IfErr r (IsRightFault (record now { phase = phases.Asking form }))
   refuses_behind (Ok event) right = tt
   refuses_behind (Err faults.OutOfMemory) right = tt
   refuses_behind (Err (faults.Refused refusal)) right = λ d q run of stands.

@@ -1,6 +1,7 @@
 pub mod Accepted
 pub mod Outcomes
 pub mod Sought
+pub mod SureEvents
 pub mod SureLogs
 pub mod SureParts
 pub mod SureRuns

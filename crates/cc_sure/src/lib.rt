@@ -4,13 +4,20 @@
 
 mod answer;
 mod check;
+mod event;
 mod examples;
 mod phase;
+mod queue;
 mod sure;
 pub mod theorems;
+mod turn;
+mod turns;
 mod verdict;
 
-pub use answer::{Answer, SureEvent};
+pub use answer::Answer;
 pub use check::{AtomHeading, check_sure};
+pub use event::SureEvent;
 pub use sure::Sure;
+pub use turn::SureTurn;
+pub use turns::SureTurns;
 pub use verdict::SureVerdict;

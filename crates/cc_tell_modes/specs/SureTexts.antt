@@ -14,8 +14,8 @@ use Rattle.cc_ports.specs.declared.desk.To.TheVariants as outputs
 use Rattle.cc_print.specs.Atoms.{atom_text, IsAtomOf}
 use Rattle.cc_sure.specs.declared.answer.Answer.{Answer}
 use Rattle.cc_sure.specs.declared.answer.Answer.TheVariants as answers
-use Rattle.cc_sure.specs.declared.answer.SureEvent.{SureEvent}
-use Rattle.cc_sure.specs.declared.answer.SureEvent.TheVariants as events
+use Rattle.cc_sure.specs.declared.turn.SureTurn.{SureTurn}
+use Rattle.cc_sure.specs.declared.turn.SureTurn.TheVariants as events
 use Rattle.cc_sure.specs.SureRuns.{SureEnding, Complete, NoneAtAll, Spent}
 use Rattle.cc_sure.specs.SureTold.{atom_heading}
 use Rattle.cc_tell.specs.declared.status.Status.{Status}
@@ -44,7 +44,7 @@ heading_of horizon None = line_text (lines.Section false horizon)
 heading_of horizon (Some atom) = atom_heading horizon atom.0 atom.1
 
 -- what is given of an event, where the run is at this horizon
-abbrev pub given_of : Description → (horizon : ℕ) → SureEvent → Given
+abbrev pub given_of : Description → (horizon : ℕ) → SureTurn → Given
 given_of d horizon (events.NoHistory empty) = given_to outputs.Out (of_horizon empty (codes "no history"))
 given_of d horizon (events.Example number row) =
     given_to outputs.Out (of_horizon horizon (codes "example " ++ decimal number) ++ (history_text d horizon row ++ key_line horizon row))
@@ -57,7 +57,7 @@ given_of d horizon (events.Spent atom lines) =
     record { out = codes "budget spent" ++ 10 ∷ []; err = []; log = heading_of horizon atom ++ flat_map line_text lines }
 
 -- its row, its atoms and its lines can be printed
-abbrev pub IsPrintable : Signature → (horizon : ℕ) → SureEvent → Type 0
+abbrev pub IsPrintable : Signature → (horizon : ℕ) → SureTurn → Type 0
 IsPrintable signature horizon (events.NoHistory empty) = Unit {0}
 IsPrintable signature horizon (events.Example number row) = (d : Description) → IsSignatureOfDescription d signature → IsRow (sizes_at d horizon) row
 IsPrintable signature horizon (events.Impossible position value lines) = AllByRecursion IsFormed lines
@@ -68,7 +68,7 @@ IsPrintable signature horizon events.NoneAtAll = Unit {0}
 IsPrintable signature horizon (events.Spent atom lines) = AllByRecursion IsFormed lines
 
 -- the status of a run whose last event this is; none where more is to come
-abbrev pub status_behind : SureEvent → Option Status
+abbrev pub status_behind : SureTurn → Option Status
 status_behind (events.NoHistory empty) = None
 status_behind (events.Example number row) = None
 status_behind (events.Impossible position value lines) = None

@@ -24,7 +24,7 @@ use cc_defs::{Event, LogLine, OutOfMemory, Sig, Text};
 use cc_ports::{Desk, To};
 use cc_print::{atom_text, example_text};
 use cc_sorts::Table;
-use cc_sure::{Answer, SureEvent};
+use cc_sure::{Answer, SureTurn};
 use cc_tell::{Status, Stop, give, give_made, tell_event, tell_line, tell_row};
 use std::alloc::Global;
 
@@ -254,7 +254,7 @@ fn tell<D: Desk>(
     table: &Table,
     sig: &Sig,
     horizon: u32,
-    event: &SureEvent,
+    event: &SureTurn,
 ) -> Result<(), Stop>
     requires signature { IsSignatureFor table.now sig.now }
     requires printable { IsPrintable sig.now horizon event.now }
@@ -262,11 +262,11 @@ fn tell<D: Desk>(
         Step (given_of d horizon event.now) (D.seen desk.old) (D.seen desk.new) result }
 {
     match event {
-        SureEvent::NoHistory { horizon: empty } => tell_none(alloc, desk, *empty),
-        SureEvent::Example { number, row } => {
+        SureTurn::NoHistory { horizon: empty } => tell_none(alloc, desk, *empty),
+        SureTurn::Example { number, row } => {
             tell_example(alloc, desk, table, sig, horizon, *number, row.items())
         }
-        SureEvent::Impossible {
+        SureTurn::Impossible {
             position,
             value,
             lines,
@@ -277,29 +277,29 @@ fn tell<D: Desk>(
             Some((*position, *value)),
             lines.items(),
         ),
-        SureEvent::Answers { position, answers } => {
+        SureTurn::Answers { position, answers } => {
             tell_answers(alloc, desk, table, sig, *position, answers.items())
         }
-        SureEvent::Complete => give(desk, To::Out, b"complete\n"),
-        SureEvent::NoneAtAll => give(desk, To::Out, b"no history\n"),
-        SureEvent::Spent { atom, lines } => {
+        SureTurn::Complete => give(desk, To::Out, b"complete\n"),
+        SureTurn::NoneAtAll => give(desk, To::Out, b"no history\n"),
+        SureTurn::Spent { atom, lines } => {
             tell_spent(alloc, desk, horizon, *atom, lines.items())
         }
     }
 }
 
 /// The status of a run whose last event this is; none where more is to come.
-fn status_behind(event: &SureEvent) -> Option<Status>
+fn status_behind(event: &SureTurn) -> Option<Status>
     ensures { result ≡ sures.status_behind event.now }
 {
     match event {
-        SureEvent::NoHistory { .. } => None,
-        SureEvent::Example { .. } => None,
-        SureEvent::Impossible { .. } => None,
-        SureEvent::Answers { .. } => None,
-        SureEvent::Complete => Some(Status::Right),
-        SureEvent::NoneAtAll => Some(Status::Not),
-        SureEvent::Spent { .. } => Some(Status::Spent),
+        SureTurn::NoHistory { .. } => None,
+        SureTurn::Example { .. } => None,
+        SureTurn::Impossible { .. } => None,
+        SureTurn::Answers { .. } => None,
+        SureTurn::Complete => Some(Status::Right),
+        SureTurn::NoneAtAll => Some(Status::Not),
+        SureTurn::Spent { .. } => Some(Status::Spent),
     }
 }
 
@@ -310,7 +310,7 @@ pub fn tell_sure<D: Desk>(
     table: &Table,
     sig: &Sig,
     horizon: u32,
-    event: &SureEvent,
+    event: &SureTurn,
 ) -> Result<Option<Status>, Stop>
     requires signature { IsSignatureFor table.now sig.now }
     requires printable { IsPrintable sig.now horizon event.now }

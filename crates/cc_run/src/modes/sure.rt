@@ -25,7 +25,7 @@ use cc_defs::theorems::positions_have_sizes;
 use cc_describe::Described;
 use cc_list::Prepared;
 use cc_ports::{Desk, To};
-use cc_sure::Sure;
+use cc_sure::SureTurns;
 use cc_sure::theorems::sure_logs_are_accepted;
 use cc_tell::{Status, Stop, begin_log, file_named, give, refuse, tell_limit};
 use cc_tell_modes::tell_sure;
@@ -37,7 +37,7 @@ fn tell_next<D: Desk>(
     alloc: Global,
     desk: &mut D,
     described: &Described,
-    sure: &mut Sure<'_>,
+    sure: &mut SureTurns<'_>,
 ) -> Result<Option<Status>, Stop>
     requires signature { IsSignatureFor described.now.table described.now.sig }
     requires same { described.now.sig ≡ sure.old.signature }
@@ -74,7 +74,7 @@ fn tell_all<D: Desk>(
     alloc: Global,
     desk: &mut D,
     described: &Described,
-    mut sure: Sure<'_>,
+    mut sure: SureTurns<'_>,
 ) -> Result<Status, Stop>
     requires signature { IsSignatureFor described.now.table described.now.sig }
     requires same { described.now.sig ≡ sure.signature }
@@ -118,7 +118,7 @@ fn tell_run<D: Desk>(
         StandsFor described.now prepared.now d q →
         TellsSure d q budget nothing (D.seen desk.old) (D.seen desk.new) result }
 {
-    let sure = Sure::new(
+    let sure = SureTurns::new(
         alloc,
         &described.sig,
         &prepared.laws,

@@ -1,8 +1,0 @@
-use Rattle.cc_sure.specs.Sures.{IsRightFault}
-use Rattle.cc_sure.proofs.Refusing.{errs_with, form_fault}
-use Rattle.cc_sure.proofs.sure.Sure.look_at.Goals as goal
-
-pub returns-in_err-form-clause-fault : goal.returns-in_err-form-clause-fault
-returns-in_err-form-clause-fault c =
-    errs_with (IsRightFault _) c.from_residual.result c.in_err-form.field-0.0 c.from_residual.ensures.1
-    (form_fault c.args.self.now c.requires.low c.in_err-form.field-0.0 c.in_err-form.ensures.refused)
