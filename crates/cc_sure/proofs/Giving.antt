@@ -1,4 +1,4 @@
--- What each step of a run gives: the event that is told, and where the state stands then.
+-- What each step of a run gives: the turn that is told, and where the state stands then.
 use Rattle.std.proofs.Common.{◌≡◌, ◌∙◌, ℕ, zero, suc, ◌+◌, ◌<◌, ◌≤◌, Bool, true, false, List, [], ◌∷◌, ◌++◌, drop, length, map, sum, slice_get, Option, Some, None, refl, sym, subst, ap, arith, append-nil, append_assoc, length-append, inl, inr}
 use Rattle.std.proofs.lemmas.List.{length-map, map-append}
 use Rattle.std.proofs.lemmas.List.Elements.{Contains-append_left, Contains-append_right}
@@ -24,7 +24,7 @@ use Rattle.cc_search.specs.declared.least.Outcome.TheVariants as outcomes
 use Rattle.cc_search.specs.Outcomes.{IsEnded, IsOutcome}
 use Rattle.cc_sure.specs.declared.answer.Answer.{Answer}
 use Rattle.cc_sure.specs.declared.turn.SureTurn.{SureTurn}
-use Rattle.cc_sure.specs.declared.turn.SureTurn.TheVariants as events
+use Rattle.cc_sure.specs.declared.turn.SureTurn.TheVariants as turns
 use Rattle.cc_sure.specs.declared.phase.Phase.TheVariants as phases
 use Rattle.cc_sure.specs.Outcomes.{AreAnswersFor, SomeHas}
 use Rattle.cc_sure.specs.Sought.{HasValue, IsAtomAt, IsSought, Any, With, PassesNoLimit, sought_axioms}
@@ -38,8 +38,8 @@ use Rattle.cc_sure.proofs.Runs.{IsEmptyAt, adds, asking_stands, at_first, begins
 use Rattle.cc_sure.proofs.Told.{shown_more}
 use Rattle.cc_theory.specs.Theories.{AreLawsOf}
 
-pub gives_at : (old new expected : SureView) (event : SureTurn) → new ≡ expected → Gives old expected event → Gives old new event
-gives_at old new expected event is gives = subst (λ (s : SureView). Gives old s event) (sym is) gives
+pub gives_at : (old new expected : SureView) (turn : SureTurn) → new ≡ expected → Gives old expected turn → Gives old new turn
+gives_at old new expected turn is gives = subst (λ (s : SureView). Gives old s turn) (sym is) gives
 
 -- ---- sizes
 
@@ -98,19 +98,19 @@ module _ (now : SureView) where
   low_at d q empty of at low = let range = range_is looking d q of in let hi = range.1 in omega arith
 
   -- what is told behind a run of this shape is told behind the run
-  tells_looking : (new : SureView) (event : SureTurn) → ((d : Description) (q : Query) → IsSureOf looking d q → (empty : ℕ) → IsFairSure d q now.budget (at_first empty) →
-      now.horizon ≡ (range_of q).0 + empty → TellsNext d q new (at_first empty) event) →
-      (d : Description) (q : Query) (run : SureRun) → IsSureOf looking d q → Stands d q looking run → TellsNext d q new run event
-  tells_looking new event tells d q run of stands =
+  tells_looking : (new : SureView) (turn : SureTurn) → ((d : Description) (q : Query) → IsSureOf looking d q → (empty : ℕ) → IsFairSure d q now.budget (at_first empty) →
+      now.horizon ≡ (range_of q).0 + empty → TellsNext d q new (at_first empty) turn) →
+      (d : Description) (q : Query) (run : SureRun) → IsSureOf looking d q → Stands d q looking run → TellsNext d q new run turn
+  tells_looking new turn tells d q run of stands =
       let (empty, same, fair, horizon) = looking_stands d q now run stands in
-      subst (λ (r : SureRun). TellsNext d q new r event) (sym same) (tells d q of empty fair horizon)
+      subst (λ (r : SureRun). TellsNext d q new r turn) (sym same) (tells d q of empty fair horizon)
 
   -- an ending
-  ends_looking : (ending : SureEnding) (event : SureTurn) → IsOver now →
+  ends_looking : (ending : SureEnding) (turn : SureTurn) → IsOver now →
       ((d : Description) (q : Query) → IsSureOf looking d q → (empty : ℕ) → IsFairSure d q now.budget (at_first empty) → now.horizon ≡ (range_of q).0 + empty → MayEndSure d q now.budget (at_first empty) ending) →
-      IsSureTurn event (Ends Any ending) → now.position ≡ 0 → now.examples ≡ [] → now.never ≡ [] →
-      (d : Description) (q : Query) (run : SureRun) → IsSureOf looking d q → Stands d q looking run → TellsNext d q now run event
-  ends_looking ending event over may is position examples never = tells_looking now event (λ d q of empty fair horizon. (
+      IsSureTurn turn (Ends Any ending) → now.position ≡ 0 → now.examples ≡ [] → now.never ≡ [] →
+      (d : Description) (q : Query) (run : SureRun) → IsSureOf looking d q → Stands d q looking run → TellsNext d q now run turn
+  ends_looking ending turn over may is position examples never = tells_looking now turn (λ d q of empty fair horizon. (
     record (at_first empty) { ending = Some ending },
     Ends Any ending,
     is,
@@ -122,9 +122,9 @@ module _ (now : SureView) where
     },
   ))
 
-  pub none_gives : IsOver now → now.query.hi < now.horizon → (now.horizon ≤ now.query.hi + 1) → now.examples ≡ [] → now.position ≡ 0 → now.never ≡ [] → Gives looking now events.NoneAtAll
+  pub none_gives : IsOver now → now.query.hi < now.horizon → (now.horizon ≤ now.query.hi + 1) → now.examples ≡ [] → now.position ≡ 0 → now.never ≡ [] → Gives looking now turns.NoneAtAll
   none_gives over high most examples position never = record {
-    tells = ends_looking NoneAtAll events.NoneAtAll over
+    tells = ends_looking NoneAtAll turns.NoneAtAll over
         (λ d q of empty fair horizon. (refl, (let range = range_is looking d q of in let hi = range.1 in omega arith))) tt position examples never;
     less = over_less now looking over (omega arith);
     goes = over;
@@ -134,9 +134,9 @@ module _ (now : SureView) where
   }
 
   pub spent_gives : IsOver now → (now.horizon ≤ now.query.hi) → now.examples ≡ [] → now.position ≡ 0 → now.never ≡ [] → (form : Axioms) → IsOpened now form → (lines : List LogLine) →
-      IsOutcome form now.budget (outcomes.Spent lines) → Gives looking now (events.Spent None lines)
+      IsOutcome form now.budget (outcomes.Spent lines) → Gives looking now (turns.Spent None lines)
   spent_gives over low examples position never form opened lines ended = record {
-    tells = ends_looking (Spent ended.section) (events.Spent None lines) over
+    tells = ends_looking (Spent ended.section) (turns.Spent None lines) over
         (λ d q of empty fair horizon. (
           low_at d q empty of horizon low,
           tt,
@@ -152,11 +152,11 @@ module _ (now : SureView) where
 
   pub pass_gives : (now.horizon ≤ now.query.hi) → now.horizon ≤ 1000 → now.examples ≡ [] → now.position ≡ 0 → now.never ≡ [] → (form : Axioms) → IsOpened now form → (lines : List LogLine) →
       IsOutcome form now.budget (outcomes.Empty lines) → (new : SureView) → new ≡ record now { horizon = now.horizon + 1; phase = phases.Looking } →
-      (event : SureTurn) → event ≡ events.NoHistory now.horizon → Gives looking new event
-  pass_gives low most examples position never form opened lines ended new new_is event event_is =
+      (turn : SureTurn) → turn ≡ turns.NoHistory now.horizon → Gives looking new turn
+  pass_gives low most examples position never form opened lines ended new new_is turn turn_is =
       let after : SureView = record now { horizon = now.horizon + 1; phase = phases.Looking } in
-      gives_at looking new after event new_is (subst (λ (e : SureTurn). Gives looking after e) (sym event_is) (record {
-        tells = tells_looking after (events.NoHistory now.horizon) (λ d q of empty fair horizon. (
+      gives_at looking new after turn new_is (subst (λ (e : SureTurn). Gives looking after e) (sym turn_is) (record {
+        tells = tells_looking after (turns.NoHistory now.horizon) (λ d q of empty fair horizon. (
           at_first (empty + 1),
           NoneAt ((range_of q).0 + empty),
           horizon,
@@ -202,12 +202,12 @@ module _ (now : SureView) where
 
   pub begin_gives : (form : Axioms) (row shown : List ℕ) → now.horizon ≤ now.query.hi → now.examples ≡ [] → now.position ≡ 0 → now.never ≡ [] → IsOpened now form →
       IsOutcome form now.budget (outcomes.Found row) → sum form.sizes + 1 ≤ 4000000 → (mid new : SureView) → mid ≡ record now { examples = now.examples ++ row ∷ [] } →
-      new ≡ record mid { phase = phases.Asking form } → shown ≡ row → Gives looking new (events.Example 1 shown)
+      new ≡ record mid { phase = phases.Asking form } → shown ≡ row → Gives looking new (turns.Example 1 shown)
   begin_gives form row shown low examples position never opened found sizes mid new mid_is new_is shown_is =
       let after : SureView = record now { examples = row ∷ []; position = 0; never = []; phase = phases.Asking form } in
       let small = row_long form.sizes row ((found.each row (in_first row [])).is_row) in
-      gives_at looking new after (events.Example 1 shown) (new_is ∙ (λ i. record (begun_is row mid mid_is examples position never i) { phase = phases.Asking form })) (record {
-        tells = tells_looking after (events.Example 1 shown) (λ d q of empty fair horizon. (
+      gives_at looking new after (turns.Example 1 shown) (new_is ∙ (λ i. record (begun_is row mid mid_is examples position never i) { phase = phases.Asking form })) (record {
+        tells = tells_looking after (turns.Example 1 shown) (λ d q of empty fair horizon. (
           going empty row [] [],
           ExampleIs 1 row,
           (refl, shown_is),
@@ -242,12 +242,12 @@ module _ (now : SureView) (form : Axioms) (is : IsAsking now form) where
   pub low_of : (d : Description) (q : Query) (empty : ℕ) → IsSureOf asking d q → now.horizon ≡ (range_of q).0 + empty → (range_of q).0 + empty ≤ (range_of q).1
   low_of d q empty of at = let range = range_is asking d q of in let hi = range.1 in let low = is.low in omega arith
 
-  tells_asking : (new : SureView) (event : SureTurn) → ((d : Description) (q : Query) → IsSureOf asking d q → (empty : ℕ) (row : List ℕ) (done : List Settled) (next : List Tried) →
-      IsFairSure d q now.budget (going empty row done next) → IsAt q now (going empty row done next) → TellsNext d q new (going empty row done next) event) →
-      (d : Description) (q : Query) (run : SureRun) → IsSureOf asking d q → Stands d q asking run → TellsNext d q new run event
-  tells_asking new event tells d q run of stands =
+  tells_asking : (new : SureView) (turn : SureTurn) → ((d : Description) (q : Query) → IsSureOf asking d q → (empty : ℕ) (row : List ℕ) (done : List Settled) (next : List Tried) →
+      IsFairSure d q now.budget (going empty row done next) → IsAt q now (going empty row done next) → TellsNext d q new (going empty row done next) turn) →
+      (d : Description) (q : Query) (run : SureRun) → IsSureOf asking d q → Stands d q asking run → TellsNext d q new run turn
+  tells_asking new turn tells d q run of stands =
       let (empty, row, same, fair, at) = asking_stands d q now form run stands in
-      subst (λ (r : SureRun). TellsNext d q new r event) (sym same) (tells d q of empty row run.done run.next fair at)
+      subst (λ (r : SureRun). TellsNext d q new r turn) (sym same) (tells d q of empty row run.done run.next fair at)
 
   -- how many values were tried
   pub tried_count : (q : Query) (empty : ℕ) (row : List ℕ) (done : List Settled) (next : List Tried) → IsAt q now (going empty row done next) → length now.never ≡ length next
@@ -310,18 +310,18 @@ module _ (now : SureView) (form : Axioms) (is : IsAsking now form) where
     }
 
     -- what a value that was tried tells
-    tried_tells : (tried : Tried) (never : Bool) (examples : List (List ℕ)) (event : SureTurn) → is_never tried ≡ never → examples ≡ now.examples ++ shown_by tried →
+    tried_tells : (tried : Tried) (never : Bool) (examples : List (List ℕ)) (turn : SureTurn) → is_never tried ≡ never → examples ≡ now.examples ++ shown_by tried →
         ((d : Description) (q : Query) → IsSureOf asking d q → (empty : ℕ) (row : List ℕ) (done : List Settled) (next : List Tried) → IsAt q now (going empty row done next) →
         IsTrueTried d q now.budget ((range_of q).0 + empty) (examples_of (going empty row done next)) (length done) (length next) tried
-        × ((told : SureTold) × IsSureTurn event told × (adds q empty row done next tried ≡ told ∷ []))) →
+        × ((told : SureTold) × IsSureTurn turn told × (adds q empty row done next tried ≡ told ∷ []))) →
         (d : Description) (q : Query) (run : SureRun) → IsSureOf asking d q → Stands d q asking run →
-        TellsNext d q (record now { never = now.never ++ never ∷ []; examples = examples; phase = phases.Asking form }) run event
-    tried_tells tried never examples event never_is examples_is each =
-        tells_asking (record now { never = now.never ++ never ∷ []; examples = examples; phase = phases.Asking form }) event (λ d q of empty row done next fair at.
-        let (true_of, (told, event_is, adds_is)) = each d q of empty row done next at in (
+        TellsNext d q (record now { never = now.never ++ never ∷ []; examples = examples; phase = phases.Asking form }) run turn
+    tried_tells tried never examples turn never_is examples_is each =
+        tells_asking (record now { never = now.never ++ never ∷ []; examples = examples; phase = phases.Asking form }) turn (λ d q of empty row done next fair at.
+        let (true_of, (told, turn_is, adds_is)) = each d q of empty row done next at in (
           going empty row done (next ++ tried ∷ []),
           told,
-          event_is,
+          turn_is,
           tries_told q empty row done next tried ∙ ap (λ l. sure_told q (going empty row done next) ++ l) adds_is,
           record {
             fair = tries_fair d q now.budget empty row done next fair tried (atom_at d q of empty row done next at) true_of;
@@ -359,14 +359,14 @@ module _ (now : SureView) (form : Axioms) (is : IsAsking now form) where
           (more_asking false (now.examples ++ row ∷ []) (let long = length-append now.examples (row ∷ []) in omega arith) known_with)
 
       pub add_gives : (shown : List ℕ) (number : ℕ) (mid new : SureView) → mid ≡ record now { never = now.never ++ false ∷ []; examples = now.examples ++ row ∷ [] } →
-          new ≡ record mid { phase = phases.Asking form } → shown ≡ row → number ≡ length mid.examples → Gives asking new (events.Example number shown)
+          new ≡ record mid { phase = phases.Asking form } → shown ≡ row → number ≡ length mid.examples → Gives asking new (turns.Example number shown)
       add_gives shown number mid new mid_is new_is shown_is number_is =
           let after : SureView = record now { never = now.never ++ false ∷ []; examples = now.examples ++ row ∷ []; phase = phases.Asking form } in
           let long = length-append now.examples (row ∷ []) in
           let count : number ≡ length (now.examples ++ row ∷ []) = number_is ∙ ap (λ (s : SureView). length s.examples) mid_is in
           let low = small in
-          gives_at asking new after (events.Example number shown) (new_is ∙ ap (λ (s : SureView). record s { phase = phases.Asking form }) mid_is) (record {
-            tells = tried_tells (Shown row) false (now.examples ++ row ∷ []) (events.Example number shown) refl refl (λ d q of empty first done next at.
+          gives_at asking new after (turns.Example number shown) (new_is ∙ ap (λ (s : SureView). record s { phase = phases.Asking form }) mid_is) (record {
+            tells = tried_tells (Shown row) false (now.examples ++ row ∷ []) (turns.Example number shown) refl refl (λ d q of empty first done next at.
                 let position = at.position in let values = tried_count q empty first done next at in let horizon = at.horizon in
                 let all : length now.examples ≡ length (examples_of (going empty first done next)) = ap length at.examples in (
                   (shift_new q empty first done next at, shift_first d q of empty first done next at, shift_limit d q of empty first done next at),
@@ -427,12 +427,12 @@ module _ (now : SureView) (form : Axioms) (is : IsAsking now form) where
       deny_ready mid mid_is = subst (λ (s : SureView). IsAsking s form) (sym mid_is) (more_asking true now.examples (omega arith) known_still)
 
       pub deny_gives : (position value : ℕ) (mid new : SureView) → word ≡ words.Empty → mid ≡ record now { never = now.never ++ true ∷ [] } → new ≡ record mid { phase = phases.Asking form } →
-          position ≡ now.position → value ≡ length now.never → Gives asking new (events.Impossible position value lines)
+          position ≡ now.position → value ≡ length now.never → Gives asking new (turns.Impossible position value lines)
       deny_gives position value mid new word_is mid_is new_is position_is value_is =
           let after : SureView = record now { never = now.never ++ true ∷ []; phase = phases.Asking form } in
           let low = small in
-          gives_at asking new after (events.Impossible position value lines) (new_is ∙ ap (λ (s : SureView). record s { phase = phases.Asking form }) mid_is) (record {
-            tells = tried_tells (Never ended.section) true now.examples (events.Impossible position value lines) refl (sym (append-nil now.examples)) (λ d q of empty first done next at.
+          gives_at asking new after (turns.Impossible position value lines) (new_is ∙ ap (λ (s : SureView). record s { phase = phases.Asking form }) mid_is) (record {
+            tells = tried_tells (Never ended.section) true now.examples (turns.Impossible position value lines) refl (sym (append-nil now.examples)) (λ d q of empty first done next at.
                 let values = tried_count q empty first done next at in (
                   (new_of_run new_value q empty first done next at, looks d q of empty first done next at, ended.ends ∙ ap Some word_is),
                   (NeverSo (length done) (length next) ended.section, (position_is ∙ at.position, value_is ∙ values, ended.lines_are), refl),
@@ -445,11 +445,11 @@ module _ (now : SureView) (form : Axioms) (is : IsAsking now form) where
           })
 
       pub stopped_gives : (position value : ℕ) → word ≡ words.Spent → IsOver now → position ≡ now.position → value ≡ length now.never →
-          Gives asking now (events.Spent (Some (position, value)) lines)
+          Gives asking now (turns.Spent (Some (position, value)) lines)
       stopped_gives position value word_is over position_is value_is =
           let low = small in
           record {
-            tells = tells_asking now (events.Spent (Some (position, value)) lines) (λ d q of empty first done next fair at. (
+            tells = tells_asking now (turns.Spent (Some (position, value)) lines) (λ d q of empty first done next fair at. (
               record (going empty first done next) { ending = Some (Spent ended.section) },
               Ends (With (length done) (length next)) (Spent ended.section),
               ((λ i. Some ((position_is ∙ at.position) i, (value_is ∙ tried_count q empty first done next at) i)), ended.lines_are),
@@ -474,11 +474,11 @@ module _ (now : SureView) (form : Axioms) (is : IsAsking now form) where
 
   -- ---- all values were tried
 
-  pub complete_gives : slice_get form.sizes now.position ≡ None → IsOver now → Gives asking now events.Complete
+  pub complete_gives : slice_get form.sizes now.position ≡ None → IsOver now → Gives asking now turns.Complete
   complete_gives none over =
       let end = past form.sizes now.position none in let position = is.position in
       record {
-        tells = tells_asking now events.Complete (λ d q of empty row done next fair at. (
+        tells = tells_asking now turns.Complete (λ d q of empty row done next fair at. (
           record (going empty row done next) { ending = Some Complete },
           Ends (With (length done) (length next)) Complete,
           tt,
@@ -536,14 +536,14 @@ module _ (now : SureView) (form : Axioms) (is : IsAsking now form) where
         let from = dropped form.sizes now.position (length now.never) all in let sums = from.0 in let less = dropped_less form.sizes now.position in let sizes = is.sizes in omega arith
 
     pub settle_gives : (position : ℕ) (answers : List Answer) (mid new : SureView) → AreAnswersFor now.examples now.position now.never 0 answers → length answers ≡ length now.never →
-        mid ≡ record now { position = now.position + 1; never = [] } → new ≡ record mid { phase = phases.Asking form } → position ≡ now.position → Gives asking new (events.Answers position answers)
+        mid ≡ record now { position = now.position + 1; never = [] } → new ≡ record mid { phase = phases.Asking form } → position ≡ now.position → Gives asking new (turns.Answers position answers)
     settle_gives position answers mid new right count mid_is new_is position_is =
         let after : SureView = record now { position = now.position + 1; never = []; phase = phases.Asking form } in
         let from = dropped form.sizes now.position (length now.never) all in let sums = from.0 in let longs = from.1 in let most = settle_most in
         let e : now.position + 1 ≡ suc now.position = omega arith in
         let same = ap (λ (n : ℕ). sum (drop n form.sizes)) e in let same_long = ap (λ (n : ℕ). length (drop n form.sizes)) e in
-        gives_at asking new after (events.Answers position answers) (new_is ∙ ap (λ (s : SureView). record s { phase = phases.Asking form }) mid_is) (record {
-          tells = tells_asking after (events.Answers position answers) (λ d q of empty row done next fair at.
+        gives_at asking new after (turns.Answers position answers) (new_is ∙ ap (λ (s : SureView). record s { phase = phases.Asking form }) mid_is) (record {
+          tells = tells_asking after (turns.Answers position answers) (λ d q of empty row done next fair at.
               let values = tried_count q empty row done next at in let here = at.position in (
                 going empty row (done ++ record { tried = next; answers = answers } ∷ []) [],
                 AnswersAre (length done) answers,

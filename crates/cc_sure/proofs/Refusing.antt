@@ -100,11 +100,11 @@ module _ (form : Axioms) (now mid : SureView) (is : IsAsking now form) (passes :
 
   pub gives_behind : (r : Result SureTurn Fault) (new : SureView) → IfOk r (Gives (record mid { phase = phases.Asking form }) new) → IfOk r (Gives (record now { phase = phases.Asking form }) new)
   gives_behind (Err fault) new gives = tt
-  gives_behind (Ok event) new gives = record {
+  gives_behind (Ok turn) new gives = record {
     tells = λ d q run of stands.
         let (known, each, told, stood) = passes.stands d q run (record { laws = of.laws; query = of.query }) stands in
-        let (after, more, event_is, told_is, stands_so) = gives.tells d q (record run { next = run.next ++ known }) (of_behind d q of) stood in
-        (after, more, event_is, told_is ∙ ap (λ l. l ++ more ∷ []) told, stands_so);
+        let (after, more, turn_is, told_is, stands_so) = gives.tells d q (record run { next = run.next ++ known }) (of_behind d q of) stood in
+        (after, more, turn_is, told_is ∙ ap (λ l. l ++ more ∷ []) told, stands_so);
     less = (let less = gives.less in let left = left_behind in omega arith);
     goes = gives.goes;
     short = gives.short;
@@ -113,7 +113,7 @@ module _ (form : Axioms) (now mid : SureView) (is : IsAsking now form) (passes :
   }
 
   pub refuses_behind : (r : Result SureTurn Fault) → IfErr r (IsRightFault (record mid { phase = phases.Asking form })) → IfErr r (IsRightFault (record now { phase = phases.Asking form }))
-  refuses_behind (Ok event) right = tt
+  refuses_behind (Ok turn) right = tt
   refuses_behind (Err faults.OutOfMemory) right = tt
   refuses_behind (Err (faults.Refused refusal)) right = λ d q run of stands.
       let (known, each, told, stood) = passes.stands d q run (record { laws = of.laws; query = of.query }) stands in

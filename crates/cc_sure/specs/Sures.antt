@@ -23,7 +23,7 @@ use Rattle.cc_sure.specs.Sought.{Sought, Any, With, sought_axioms}
 use Rattle.cc_sure.specs.SureRuns.{IsFairSure, ReachesSureLimit, SureRun, Tried, Known, Shown, Never, Complete, NoneAtAll, Spent, examples_of, sure_horizon}
 use Rattle.cc_sure.specs.SureTold.{SureTold, NoneAt, ExampleIs, NeverSo, AnswersAre, Ends, sure_told}
 use Rattle.cc_sure.specs.declared.turn.SureTurn.{SureTurn}
-use Rattle.cc_sure.specs.declared.turn.SureTurn.TheVariants as events
+use Rattle.cc_sure.specs.declared.turn.SureTurn.TheVariants as turns
 use Rattle.cc_sure.specs.declared.phase.Phase.{Phase}
 use Rattle.cc_sure.specs.declared.phase.Phase.TheVariants as phases
 use Rattle.cc_theory.specs.Theories.{AreLawsFor, AreLawsOf}
@@ -90,21 +90,21 @@ abbrev pub sought_atom : Sought → Option (ℕ × ℕ)
 sought_atom Any = None
 sought_atom (With position value) = Some (position, value)
 
--- an event says this
+-- a turn says this
 abbrev pub IsSureTurn : SureTurn → SureTold → Type 0
-IsSureTurn (events.NoHistory horizon) (NoneAt empty) = horizon ≡ empty
-IsSureTurn (events.Example number row) (ExampleIs told shown) = (number ≡ told) × (row ≡ shown)
-IsSureTurn (events.Impossible position value lines) (NeverSo at index section) =
+IsSureTurn (turns.NoHistory horizon) (NoneAt empty) = horizon ≡ empty
+IsSureTurn (turns.Example number row) (ExampleIs told shown) = (number ≡ told) × (row ≡ shown)
+IsSureTurn (turns.Impossible position value lines) (NeverSo at index section) =
     (position ≡ at) × (value ≡ index) × (lines ≡ section_lines section)
-IsSureTurn (events.Answers position answers) (AnswersAre at told) = (position ≡ at) × (answers ≡ told)
-IsSureTurn events.Complete (Ends sought Complete) = Unit {0}
-IsSureTurn events.NoneAtAll (Ends sought NoneAtAll) = Unit {0}
-IsSureTurn (events.Spent atom lines) (Ends sought (Spent section)) = (atom ≡ sought_atom sought) × (lines ≡ section_lines section)
-IsSureTurn event told = ⊥
+IsSureTurn (turns.Answers position answers) (AnswersAre at told) = (position ≡ at) × (answers ≡ told)
+IsSureTurn turns.Complete (Ends sought Complete) = Unit {0}
+IsSureTurn turns.NoneAtAll (Ends sought NoneAtAll) = Unit {0}
+IsSureTurn (turns.Spent atom lines) (Ends sought (Spent section)) = (atom ≡ sought_atom sought) × (lines ≡ section_lines section)
+IsSureTurn turn told = ⊥
 
--- Behind what a run told comes this event; with it the run still tells the truth, and the state is where it leaves it.
+-- Behind what a run told comes this turn; with it the run still tells the truth, and the state is where it leaves it.
 abbrev pub TellsNext : Description → Query → SureView → SureRun → SureTurn → Type 0
-TellsNext d q new run event = (after : SureRun) × (told : SureTold) × IsSureTurn event told
+TellsNext d q new run turn = (after : SureRun) × (told : SureTold) × IsSureTurn turn told
     × (sure_told q after ≡ sure_told q run ++ told ∷ []) × Stands d q new after
 
 -- it is about the same
@@ -122,36 +122,36 @@ IsRightFault sure (faults.Refused refusal) = (d : Description) (q : Query) (run 
 
 -- there is more to come, but behind an ending
 abbrev pub GoesOn : SureView → SureTurn → Type 0
-GoesOn sure (events.NoHistory horizon) = HasMore sure
-GoesOn sure (events.Example number row) = HasMore sure
-GoesOn sure (events.Impossible position value lines) = HasMore sure
-GoesOn sure (events.Answers position answers) = HasMore sure
-GoesOn sure events.Complete = IsOver sure
-GoesOn sure events.NoneAtAll = IsOver sure
-GoesOn sure (events.Spent atom lines) = IsOver sure
+GoesOn sure (turns.NoHistory horizon) = HasMore sure
+GoesOn sure (turns.Example number row) = HasMore sure
+GoesOn sure (turns.Impossible position value lines) = HasMore sure
+GoesOn sure (turns.Answers position answers) = HasMore sure
+GoesOn sure turns.Complete = IsOver sure
+GoesOn sure turns.NoneAtAll = IsOver sure
+GoesOn sure (turns.Spent atom lines) = IsOver sure
 
 -- its lines can be written
 abbrev pub IsShortTurn : SureTurn → Type 0
-IsShortTurn (events.Impossible position value lines) = AllByRecursion IsFormed lines
-IsShortTurn (events.Spent atom lines) = AllByRecursion IsFormed lines
-IsShortTurn event = Unit {0}
+IsShortTurn (turns.Impossible position value lines) = AllByRecursion IsFormed lines
+IsShortTurn (turns.Spent atom lines) = AllByRecursion IsFormed lines
+IsShortTurn turn = Unit {0}
 
 -- its numbers are small
 abbrev pub IsFewAtom : ℕ × ℕ → Type 0
 IsFewAtom atom = (atom.0 < most_variables) × (atom.1 < most_variables)
 
 abbrev pub IsFewTurn : SureTurn → Type 0
-IsFewTurn (events.NoHistory horizon) = horizon ≤ most_steps
-IsFewTurn (events.Example number row) = number ≤ most_variables
-IsFewTurn (events.Impossible position value lines) = IsFewAtom (position, value)
-IsFewTurn (events.Answers position answers) = (position < most_variables) × (length answers ≤ most_variables)
-IsFewTurn (events.Spent atom lines) = IfSome atom IsFewAtom
-IsFewTurn event = Unit {0}
+IsFewTurn (turns.NoHistory horizon) = horizon ≤ most_steps
+IsFewTurn (turns.Example number row) = number ≤ most_variables
+IsFewTurn (turns.Impossible position value lines) = IsFewAtom (position, value)
+IsFewTurn (turns.Answers position answers) = (position < most_variables) × (length answers ≤ most_variables)
+IsFewTurn (turns.Spent atom lines) = IfSome atom IsFewAtom
+IsFewTurn turn = Unit {0}
 
 -- where it says that no history has an atom, the axioms of its section are clauses over their variables
 abbrev pub IsGoodTurn : Description → Query → (horizon : ℕ) → SureTurn → Type 0
-IsGoodTurn d q horizon (events.Impossible position value lines) = AreGoodAxioms (sought_axioms d q horizon (With position value))
-IsGoodTurn d q horizon event = Unit {0}
+IsGoodTurn d q horizon (turns.Impossible position value lines) = AreGoodAxioms (sought_axioms d q horizon (With position value))
+IsGoodTurn d q horizon turn = Unit {0}
 
 -- ---- how much may still come: a number that each call lowers
 
@@ -212,13 +212,13 @@ pub record IsSure (sure : SureView) : Type 0 where
   pub ready : IsReady sure sure.phase
 
 -- what a call gives
-pub record Gives (old new : SureView) (event : SureTurn) : Type 0 where
-  pub tells : (d : Description) (q : Query) (run : SureRun) → IsSureOf old d q → Stands d q old run → TellsNext d q new run event
+pub record Gives (old new : SureView) (turn : SureTurn) : Type 0 where
+  pub tells : (d : Description) (q : Query) (run : SureRun) → IsSureOf old d q → Stands d q old run → TellsNext d q new run turn
   pub less : left_of new < left_of old
-  pub goes : GoesOn new event
-  pub short : IsShortTurn event
-  pub few : IsFewTurn event
-  pub good : (d : Description) (q : Query) → IsSureOf old d q → IsGoodTurn d q new.horizon event
+  pub goes : GoesOn new turn
+  pub short : IsShortTurn turn
+  pub few : IsFewTurn turn
+  pub good : (d : Description) (q : Query) → IsSureOf old d q → IsGoodTurn d q new.horizon turn
 
 -- Values that examples have were passed over: nothing was told of them, and all else is as it was.
 pub record PassesTo (form : Axioms) (old new : SureView) : Type 0 where

@@ -16,7 +16,7 @@ ghost use Rattle.cc_sure.specs.SureLogs.{IsAtomHeading, RefutesAtoms, as_silent,
 ghost use Rattle.cc_sure.specs.SureParts.{HasAtom, HasNoPart, IsLastPart, IsPart};
 ghost use Rattle.cc_theory.specs.Theories.{AreLawsFor, AreLawsOf};
 
-use crate::sure::size_at;
+use crate::turns::size_at;
 use crate::verdict::SureVerdict;
 use cc_arena::{GroundQuery, Laws};
 use cc_check::theorems::silent_sections_have_no_rows;

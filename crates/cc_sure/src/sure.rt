@@ -17,6 +17,7 @@ use cc_arena::{GroundQuery, Laws};
 use cc_defs::{Fault, Sig};
 use std::alloc::Global;
 use std::marker::Model;
+use std::mem;
 
 /// A run on what is certain, possible and impossible at the first horizon of a query that has a history, as `SureTurns`, whose
 /// turns it hands out event by event, with the lines of its log: for each atom that no history has the heading of its section and
@@ -77,7 +78,8 @@ impl<'a> Sure<'a> {
         ensures refused { IfErr result (IsRightFaultBehind self.old) }
     {
         let turn = self.turns.next()?;
-        self.queued = queue_of(self.alloc, self.turns.horizon(), turn);
+        let queued = queue_of(self.alloc, self.turns.horizon(), turn);
+        drop(mem::replace(&mut self.queued, queued));
         Ok(())
     }
 
@@ -93,11 +95,12 @@ impl<'a> Sure<'a> {
         ensures more { IfOk result (λ event. (IsEnd event → ⊥) → HasMoreEvents self.new) }
         ensures less { OnOk result (IsLess self.new self.old) }
     {
-        loop {
-            if let Some(event) = self.queued.next() {
-                return Ok(event);
+        match self.queued.next() {
+            Some(event) => Ok(event),
+            None => {
+                self.turn()?;
+                self.next()
             }
-            self.turn()?;
         }
     }
 }

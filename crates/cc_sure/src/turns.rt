@@ -254,7 +254,7 @@ impl<'a> SureTurns<'a> {
         requires over { IsOver self.old }
         requires ready { IsReady self.old phases.Looking }
         requires low { self.old.horizon ≤ self.old.query.hi }
-        ensures event { result ≡ turns.NoHistory self.old.horizon }
+        ensures turn { result ≡ turns.NoHistory self.old.horizon }
         ensures few { self.old.horizon ≤ most_steps }
         ensures new { self.new
             ≡ record self.old { horizon = self.old.horizon + 1; phase = phases.Looking } }
