@@ -1,5 +1,5 @@
 -- What is left of a writer by a call whose result is handed on.
-use Rattle.std.proofs.Common.{Result, Ok, Err, IfErr, IfOk, IsErr, IsOk, OnErr, OnOk, inl, inr, ◌⊎◌, ◌≡◌, ◌≤◌, List, length, None, Some, is_ok, refl, sym, ap, subst}
+use Rattle.std.proofs.Common.{Result, Ok, Err, IfErr, IfOk, IsErr, IsErrAnd, IsOk, OnErr, OnOk, inl, inr, ◌⊎◌, ◌≡◌, ◌≤◌, List, length, None, Some, refl, sym, ap, subst}
 use Rattle.std.proofs.lemmas.Bool.{le-ltb, lt-ltb}
 use Rattle.cc_defs.specs.declared.refusal.Fault.{Fault}
 use Rattle.cc_defs.specs.declared.refusal.Fault.TheVariants as faults
@@ -12,9 +12,6 @@ use Rattle.cc_form.specs.Drafts.{axioms_refusal}
 use Rattle.cc_form.specs.Machine.{IsPast}
 use Rattle.cc_form.specs.Store.{AreFew, Holds, literal_count_of}
 use Rattle.cc_form.proofs.Whole.{KeepsAll}
-
-pub at_ok : {X E : Type 0} (P : X → Type 0) (made : Result X E) (x : X) → IfOk made P → made ≡ Ok x → P x
-at_ok {X} {E} P made x p is = subst (λ (r : Result X E). IfOk r P) is p
 
 pub on_then : {X E A B : Type 0} (made : Result X E) → OnOk made A → (A → B) → OnOk made B
 on_then (Ok x) a then = then a
@@ -32,6 +29,11 @@ err_on P (Ok x) is = absurd cc
 pub err_if : {X E : Type 0} (P : X → Type 0) (made : Result X E) → IsErr made → IfOk made P
 err_if P (Err e) is = tt
 err_if P (Ok x) is = absurd cc
+
+-- what is known of an error is so where it goes up
+pub errs : {X E : Type 0} (made : Result X E) (error : E) (P : E → Type 0) → IsErrAnd made (λ given. given ≡ error) → P error → IfErr made P
+errs (Ok x) error P is p = tt
+errs (Err given) error P is p = subst P (sym is) p
 
 -- a writer that is emptied after an error
 
@@ -53,7 +55,7 @@ within_then {X} {B} {P} made (Ok x) writer is p b keeps few then =
     then x (subst (λ (r : Result X Fault). IfOk r P) is p) (subst (λ (r : Result X Fault). OnOk r B) is b) (λ clauses holds. (keeps clauses holds, few clauses holds))
 within_then made (Err fault) writer is p b keeps few then = tt
 
-pub past_refused : (axioms : Axioms) (fault : Fault) → IsPast axioms.variables fault → IsRefusedBy (axioms_refusal axioms) fault
+past_refused : (axioms : Axioms) (fault : Fault) → IsPast axioms.variables fault → IsRefusedBy (axioms_refusal axioms) fault
 past_refused axioms (faults.Refused refusal) past = rw (lt-ltb 4000000 axioms.variables past.1) (ap Some (sym past.0))
 past_refused axioms faults.OutOfMemory past = tt
 
@@ -67,12 +69,6 @@ few_within axioms few are = rw (le-ltb 4000000 axioms.variables few, le-ltb 8000
 abbrev pub IsPastLimit : {X : Type 0} → Result X Fault → Writer → Fault → Type 0
 IsPastLimit made writer fault =
     (made ≡ Err fault) ⊎ (IsOk made × ((clauses : List (List Literal)) → Holds writer.store.kept clauses → IsRefusedBy (count_refusal clauses) fault))
-
-pub not_within : {X : Type 0} (made fits : Result X Fault) (filling : Result (Unit {0}) Fault) (writer : Writer) (it : X) → made ≡ Ok it → IfErr fits (λ fault. filling ≡ Err fault) →
-    ((clauses : List (List Literal)) → Holds writer.store.kept clauses → IfErr filling (IsRefusedBy (count_refusal clauses))) → IfErr fits (IsPastLimit made writer)
-not_within made (Ok x) filling writer it is error refused = tt
-not_within made (Err fault) filling writer it is error refused =
-    inr (ap is_ok is, λ clauses holds. subst (λ r. IfErr r (IsRefusedBy (count_refusal clauses))) error (refused clauses holds))
 
 -- the first limit that is passed: of variables as it is made, of clauses and literals behind it
 pub within_refused : {X : Type 0} (made fits result : Result X Fault) (writer : Writer) (axioms : Axioms) → result ≡ fits → IfErr made (IsRefusedBy (axioms_refusal axioms)) →

@@ -63,13 +63,8 @@ fn begun(alloc: Global, draft: Draft, sizes: &[u32]) -> Result<Builder, Fault>
         (axioms_behind sizes.now (record { last = true_variable sizes.now; clauses = [] })))) }
 {
     let writer = draft.into_writer();
-    match writer.fits() {
-        Ok(()) => Ok(Builder { writer, alloc }),
-        Err(fault) => {
-            drop(writer);
-            Err(fault)
-        }
-    }
+    writer.fits()?;
+    Ok(Builder { writer, alloc })
 }
 
 impl Builder {
@@ -84,10 +79,8 @@ impl Builder {
             (axioms_behind sizes.now (record { last = true_variable sizes.now; clauses = [] })))) }
     {
         let own = Vec::from_slice(alloc, sizes)?;
-        match Draft::new(alloc, own) {
-            Ok(draft) => begun(alloc, draft, sizes),
-            Err(fault) => Err(fault),
-        }
+        let draft = Draft::new(alloc, own)?;
+        begun(alloc, draft, sizes)
     }
 
     /// The literal of a term in postfix order, whose constants are numbered from the position `first` on. Each conjunction,

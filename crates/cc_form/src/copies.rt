@@ -7,7 +7,6 @@ ghost use Rattle.cc_form.specs.Building.{count_refusal};
 
 use cc_clauses::ClauseArena;
 use cc_defs::{Fault, LimitAt, Lit, OutOfMemory, Refusal};
-use cc_results::filled;
 use std::alloc::Global;
 
 /// The same clauses.
@@ -31,8 +30,8 @@ pub(crate) fn copy_with(
     ensures { IfOk result (λ copy. copy ≡ clauses.now ++ more.now ∷ []) }
 {
     let mut copy = copy_of(alloc, clauses)?;
-    let put = copy.push(more);
-    filled(copy, put)
+    copy.push(more)?;
+    Ok(copy)
 }
 
 /// Whether one clause of one literal more keeps the clauses and their literals within their limits.

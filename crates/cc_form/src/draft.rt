@@ -20,7 +20,6 @@ use crate::writer::Writer;
 use cc_defs::{Fault, Lit, Node, OutOfMemory};
 use std::alloc::Global;
 use std::marker::Model;
-use std::mem::replace;
 
 /// A clause list over positions in the making: that a variable is true, that each position has exactly one value, and then
 /// what its calls put behind. More clauses or literals than their limits are counted and no longer kept, and refused by
@@ -67,7 +66,7 @@ pub(crate) fn emptied<X: Drop, E: Drop>(
     ensures whole { OnErr made (IsWhole writer.new) }
 {
     if made.is_err() {
-        drop(replace(writer, Writer::none(alloc)));
+        *writer = Writer::none(alloc);
     }
     made
 }
@@ -81,13 +80,8 @@ impl Draft {
         ensures refused { IfErr result (IsPast (true_variable sizes.items)) }
     {
         let mut writer = Writer::new(alloc, sizes)?;
-        match write_first(&mut writer) {
-            Ok(()) => Ok(Draft { writer, alloc }),
-            Err(OutOfMemory) => {
-                drop(writer);
-                Err(Fault::OutOfMemory)
-            }
-        }
+        write_first(&mut writer)?;
+        Ok(Draft { writer, alloc })
     }
 
     /// The writer, with what was put behind.

@@ -36,7 +36,6 @@ use cc_arena::theorems::terms_mean_formulas;
 use cc_arena::{GroundCondition, GroundQuery, one_formula};
 use cc_clauses::ClauseArena;
 use cc_defs::{Fault, Key, Lit, OutOfMemory};
-use cc_results::{both, filled};
 use cc_theory::Theory;
 use cc_theory::theorems::{models_are_paths, models_meet_completion};
 use std::alloc::Global;
@@ -123,11 +122,12 @@ impl Form {
     pub fn copy(&self, alloc: Global) -> Result<Form, OutOfMemory>
         ensures { IfOk result (λ copy. copy ≡ self.now) }
     {
-        let copies = both(self.places.copy(alloc), copy_of(alloc, &self.clauses))?;
+        let places = self.places.copy(alloc)?;
+        let clauses = copy_of(alloc, &self.clauses)?;
         Ok(Form {
-            places: copies.0,
+            places,
             variables: self.variables,
-            clauses: copies.1,
+            clauses,
         })
     }
 
@@ -143,12 +143,12 @@ impl Form {
             (IsRefusedBy (count_refusal (with_atom self.now position value).clauses)) }
     {
         fits_one(&self.clauses)?;
-        let clauses = copy_with(alloc, &self.clauses, &[self.places.atom(position, value)]);
-        let copies = both(self.places.copy(alloc), clauses)?;
+        let places = self.places.copy(alloc)?;
+        let clauses = copy_with(alloc, &self.clauses, &[self.places.atom(position, value)])?;
         Ok(Form {
-            places: copies.0,
+            places,
             variables: self.variables,
-            clauses: copies.1,
+            clauses,
         })
     }
 
@@ -285,13 +285,8 @@ pub(crate) fn close(writer: Writer) -> Result<Form, Fault>
     ensures refused { (kept : List (List Literal)) →
         Holds writer.store.kept kept → IfErr result (IsRefusedBy (count_refusal kept)) }
 {
-    match writer.fits() {
-        Ok(()) => Ok(form_of_whole(writer)),
-        Err(fault) => {
-            drop(writer);
-            Err(fault)
-        }
-    }
+    writer.fits()?;
+    Ok(form_of_whole(writer))
 }
 
 /// The clauses of a section, written by a writer over its positions.
@@ -350,8 +345,8 @@ fn build(
 {
     let _rules = theory.rules();
     let mut writer = Writer::over(alloc, theory.sig(), theory.horizon())?;
-    let filling = fill(alloc, &mut writer, theory, query, with_claim, after);
-    filled(writer, filling)
+    fill(alloc, &mut writer, theory, query, with_claim, after)?;
+    Ok(writer)
 }
 
 /// The clause list of a section: the axioms of the search for the histories of a query at the horizon of a theory. In order:

@@ -11,7 +11,6 @@ ghost use Rattle.cc_form.specs.Machine.{IsPast};
 ghost use Rattle.cc_form.specs.Places.{firsts as firsts_from, position_sizes};
 
 use cc_defs::{Fault, LimitAt, Lit, OutOfMemory, Refusal, Sig};
-use cc_results::both;
 use std::alloc::Global;
 use std::marker::Model;
 
@@ -138,12 +137,11 @@ impl Places {
     pub(crate) fn copy(&self, alloc: Global) -> Result<Places, OutOfMemory>
         ensures { IfOk result (λ copy. copy ≡ self.now) }
     {
-        let sizes = Vec::from_slice(alloc, self.sizes.as_slice());
-        let firsts = Vec::from_slice(alloc, self.firsts.as_slice());
-        let copies = both(sizes, firsts)?;
+        let sizes = Vec::from_slice(alloc, self.sizes.as_slice())?;
+        let firsts = Vec::from_slice(alloc, self.firsts.as_slice())?;
         Ok(Places {
-            sizes: copies.0,
-            firsts: copies.1,
+            sizes,
+            firsts,
             truth: self.truth,
         })
     }

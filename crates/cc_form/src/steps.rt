@@ -21,8 +21,7 @@ use crate::store::Store;
 use crate::writer::Writer;
 use cc_arena::Laws;
 use cc_clauses::ClauseArena;
-use cc_defs::{Fault, Lit, OutOfMemory, Sig};
-use cc_results::both;
+use cc_defs::{Fault, Lit, Sig};
 use cc_theory::theorems::laws_give_rules;
 use cc_theory::{Theory, TimedRule, initial_rules, step_rules};
 use std::alloc::Global;
@@ -131,14 +130,9 @@ fn ruled(
 {
     let made = bodies(alloc, writer, stride, rules)?;
     literals.extend_from_slice(&made)?;
-    let bodies = taken(alloc, writer);
-    let denials = denied(alloc, writer, rules, &made);
-    drop(made);
-    let groups = both(bodies, denials)?;
-    Ok(RuledStep {
-        bodies: groups.0,
-        denials: groups.1,
-    })
+    let bodies = taken(alloc, writer)?;
+    let denials = denied(alloc, writer, rules, &made)?;
+    Ok(RuledStep { bodies, denials })
 }
 
 /// The literals of the bodies of initial rules.
@@ -163,16 +157,9 @@ fn begin(
 {
     laws_give_rules();
     let stride = u64::from(sig.fluents()) + u64::from(sig.actions());
-    match initial_rules(alloc, sig) {
-        Ok(rules) => match ruled(alloc, writer, stride, &rules, literals) {
-            Ok(step) => {
-                drop(step);
-                Ok(())
-            }
-            Err(fault) => Err(fault),
-        },
-        Err(OutOfMemory) => Err(Fault::OutOfMemory),
-    }
+    let rules = initial_rules(alloc, sig)?;
+    ruled(alloc, writer, stride, &rules, literals)?;
+    Ok(())
 }
 
 /// The clauses of the rules of a step, and the literals of their bodies behind those of the steps before.
@@ -239,21 +226,8 @@ fn three_ruled(
     begin(alloc, writer, sig, laws, literals)?;
     let first = go_on(alloc, writer, sig, laws, 0, literals)?;
     let own = writer.last - start;
-    let later = match go_on(alloc, writer, sig, laws, 1, literals) {
-        Ok(later) => later,
-        Err(fault) => {
-            drop(first);
-            return Err(fault);
-        }
-    };
-    let last = match go_on(alloc, writer, sig, laws, 2, literals) {
-        Ok(last) => last,
-        Err(fault) => {
-            drop(first);
-            drop(later);
-            return Err(fault);
-        }
-    };
+    let later = go_on(alloc, writer, sig, laws, 1, literals)?;
+    let last = go_on(alloc, writer, sig, laws, 2, literals)?;
     Ok(ThreeRuled {
         first,
         later,
@@ -293,7 +267,6 @@ fn completed(
         start,
         end,
     )?;
-    drop(causes);
     taken(alloc, writer)
 }
 
@@ -318,17 +291,10 @@ fn three_complete(
     let theory = Theory::at(alloc, sig, laws, 2)?;
     let stride = sig.fluents() as usize + sig.actions() as usize;
     let end = writer.places.sizes().len();
-    let first = completed(alloc, writer, &theory, literals, 0, stride);
-    let later = completed(alloc, writer, &theory, literals, stride, 2 * stride);
-    let last = completed(alloc, writer, &theory, literals, 2 * stride, end);
-    drop(theory);
-    let two = both(first, later);
-    let three = both(two, last)?;
-    Ok(ThreeComplete {
-        first: three.0.0,
-        later: three.0.1,
-        last: three.1,
-    })
+    let first = completed(alloc, writer, &theory, literals, 0, stride)?;
+    let later = completed(alloc, writer, &theory, literals, stride, 2 * stride)?;
+    let last = completed(alloc, writer, &theory, literals, 2 * stride, end)?;
+    Ok(ThreeComplete { first, later, last })
 }
 
 /// The clauses of a step, put together.
@@ -363,13 +329,7 @@ fn steps_by(
     let atoms = writer.last - 1;
     let mut literals = Vec::new(alloc);
     let ruled = three_ruled(alloc, writer, sig, laws, &mut literals)?;
-    let completion = match three_complete(alloc, writer, sig, laws, &literals) {
-        Ok(completion) => completion,
-        Err(fault) => {
-            drop(ruled);
-            return Err(fault);
-        }
-    };
+    let completion = three_complete(alloc, writer, sig, laws, &literals)?;
     let ends = writer.last;
     let ThreeRuled {
         first,

@@ -29,7 +29,6 @@ use crate::writer::Writer;
 use cc_arena::theorems::terms_mean_formulas;
 use cc_arena::{GroundQuery, Laws, one_formula};
 use cc_defs::{Fault, Key, LimitAt, OutOfMemory, Refusal, Sig};
-use cc_results::filled;
 use cc_theory::theorems::{laws_give_rules, models_are_paths, models_meet_completion};
 use cc_theory::{Theory, are_rules_few};
 use std::alloc::Global;
@@ -37,7 +36,6 @@ use std::marker::Model;
 
 /// The clauses of one step of each kind, the first, one behind it and the last, from which the clause list of each horizon of
 /// two steps or more is put together: the variables of a step are those of another, each moved by the same number.
-#[derive(Drop)]
 pub struct Template<'a> {
     alloc: Global,
     sig: &'a Sig,
@@ -57,6 +55,19 @@ impl<'a> Model for Template<'a> {
 
     ghost invariant = { λ template. AreLawsFor template.sig.now template.laws.now
         × IfSome template.steps (AreSteps template.sig.now template.laws.now) };
+}
+
+// By hand, so that whoever lets a template go has one call there, and not a drop for each field.
+impl<'a> Drop for Template<'a> {
+    fn drop(self) {
+        let Template {
+            alloc: _,
+            sig: _,
+            laws: _,
+            steps,
+        } = self;
+        drop(steps);
+    }
 }
 
 /// The clauses of a horizon of two, where it passes no limit.
@@ -262,7 +273,7 @@ fn build(
     ensures ready { IfOk result IsBuiltForm }
 {
     let mut writer = Writer::over(alloc, sig, horizon)?;
-    let filling = fill(
+    fill(
         &mut writer,
         sig,
         laws,
@@ -271,8 +282,8 @@ fn build(
         query,
         with_claim,
         after,
-    );
-    filled(writer, filling)
+    )?;
+    Ok(writer)
 }
 
 /// The clause list of a section, put together.
@@ -325,10 +336,8 @@ fn made(
         (plain_ground_query query.now) with_claim (option_map (λ key. key.now) after.entry)
         (option_map (λ key. key.now.row) after.entry) result }
 {
-    match Theory::at(alloc, sig, laws, horizon) {
-        Ok(theory) => clauses(alloc, &theory, query, with_claim, after),
-        Err(fault) => Err(fault),
-    }
+    let theory = Theory::at(alloc, sig, laws, horizon)?;
+    clauses(alloc, &theory, query, with_claim, after)
 }
 
 impl<'a> Template<'a> {

@@ -19,7 +19,6 @@ use crate::places::{Places, sizes_of};
 use crate::store::Store;
 use cc_clauses::ClauseArena;
 use cc_defs::{Fault, LimitAt, Lit, Node, Refusal, Sig};
-use cc_results::filled;
 use std::alloc::Global;
 
 /// Makes clauses over the positions of a horizon. Each conjunction, disjunction and equivalence gets a variable of its own
@@ -329,10 +328,9 @@ impl Writer {
             ⊎ (IsOk made × ((clauses : List (List Literal)) → Holds self.now.store.kept clauses →
             IsRefusedBy (count_refusal clauses) fault))) }
     {
-        match made {
-            Ok(it) => filled(it, self.fits()),
-            Err(fault) => Err(fault),
-        }
+        let it = made?;
+        self.fits()?;
+        Ok(it)
     }
 
     /// The positions, the number of the last variable, and the clauses.

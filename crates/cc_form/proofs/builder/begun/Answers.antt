@@ -2,10 +2,11 @@ use Rattle.std.proofs.Common.{◌++◌, [], refl, subst, sym}
 use Rattle.cc_defs.specs.ClauseForms.{true_variable}
 use Rattle.cc_defs.specs.ClauseLists.{Asserted}
 use Rattle.cc_form.specs.declared.writer.Writer.{Writer}
-use Rattle.cc_form.specs.Drafts.{IsDraft}
+use Rattle.cc_form.specs.Drafts.{IsDraft, axioms_refusal}
 use Rattle.cc_form.specs.Parts.{axioms_behind, first_clauses}
 use Rattle.cc_form.proofs.Whole.{built_is, draft_whole, first_refused}
 use Rattle.cc_form.proofs.Leaving.{few_within}
+use Rattle.cc_form.proofs.Rooms.{errs_as}
 use Rattle.cc_form.proofs.builder.begun.Goals as goal
 
 pub invariant_of-result : goal.invariant_of-result
@@ -13,26 +14,27 @@ invariant_of-result c =
     let sizes = c.args.sizes.now in
     let made : Asserted = record { last = true_variable sizes; clauses = [] } in
     let is : IsDraft sizes c.into_writer-writer.result made = subst (λ (w : Writer). IsDraft sizes w made) (sym c.into_writer-writer.ensures) c.requires in
-    draft_whole sizes c.into_writer-writer.result made is (λ clauses holds. (c.in-Ok.ensures.kept clauses holds, c.in-Ok.ensures.few clauses holds))
+    draft_whole sizes c.into_writer-writer.result made is (λ clauses holds. (c.in_ok-fits.ensures.kept clauses holds, c.in_ok-fits.ensures.few clauses holds))
 
-pub returns-in-Ok-clause-built : goal.returns-in-Ok-clause-built
-returns-in-Ok-clause-built c =
+pub returns-clause-built : goal.returns-clause-built
+returns-clause-built c =
     let sizes = c.args.sizes.now in
     let made : Asserted = record { last = true_variable sizes; clauses = [] } in
     let writer = c.into_writer-writer.result in
     let is : IsDraft sizes writer made = subst (λ (w : Writer). IsDraft sizes w made) (sym c.into_writer-writer.ensures) c.requires in
-    built_is sizes sizes writer.places writer.last writer.store.kept.arena refl is.places is.ends (c.in-Ok.ensures.kept (first_clauses sizes ++ []) is.holds)
+    built_is sizes sizes writer.places writer.last writer.store.kept.arena refl is.places is.ends (c.in_ok-fits.ensures.kept (first_clauses sizes ++ []) is.holds)
 
-pub returns-in-Ok-clause-within : goal.returns-in-Ok-clause-within
-returns-in-Ok-clause-within c =
+pub returns-clause-within : goal.returns-clause-within
+returns-clause-within c =
     let sizes = c.args.sizes.now in
     let made : Asserted = record { last = true_variable sizes; clauses = [] } in
     let is : IsDraft sizes c.into_writer-writer.result made = subst (λ (w : Writer). IsDraft sizes w made) (sym c.into_writer-writer.ensures) c.requires in
-    few_within (axioms_behind sizes made) is.within (c.in-Ok.ensures.few (first_clauses sizes ++ []) is.holds)
+    few_within (axioms_behind sizes made) is.within (c.in_ok-fits.ensures.few (first_clauses sizes ++ []) is.holds)
 
-pub returns-in-Err-clause-refused : goal.returns-in-Err-clause-refused
-returns-in-Err-clause-refused c =
+pub returns-in_err-fits-clause-refused : goal.returns-in_err-fits-clause-refused
+returns-in_err-fits-clause-refused c =
     let sizes = c.args.sizes.now in
     let made : Asserted = record { last = true_variable sizes; clauses = [] } in
     let is : IsDraft sizes c.into_writer-writer.result made = subst (λ (w : Writer). IsDraft sizes w made) (sym c.into_writer-writer.ensures) c.requires in
-    first_refused c.in-Err.fault sizes is.within (c.in-Err.ensures.refused (first_clauses sizes ++ []) is.holds)
+    errs_as c.from_residual.result c.in_err-fits.field-0.0 (axioms_refusal (axioms_behind sizes made)) c.from_residual.ensures.1
+    (first_refused c.in_err-fits.field-0.0 sizes is.within (c.in_err-fits.ensures.refused (first_clauses sizes ++ []) is.holds))

@@ -1,10 +1,9 @@
-use Rattle.std.proofs.Common.{◌≡◌, ℕ, ◌++◌, ◌∷◌, [], IfErr, List, refl, ap, subst}
+use Rattle.std.proofs.Common.{◌++◌, ◌∷◌, [], IfErr, List, refl, ap, subst}
 use Rattle.cc_defs.specs.ClauseForms.{atom_variable, positive}
 use Rattle.cc_defs.specs.Clauses.{Literal}
 use Rattle.cc_defs.specs.Refusals.{IsRefusedBy}
 use Rattle.cc_defs.specs.Sections.{Axioms}
 use Rattle.cc_form.specs.Building.{count_refusal}
-use Rattle.cc_form.proofs.Leaving.{at_ok}
 use Rattle.cc_form.proofs.Rooms.{atom_placed, errs_as}
 use Rattle.cc_form.proofs.form.Form.with_atom.Goals as goal
 
@@ -17,9 +16,5 @@ returns-in_err-fits_one-clause-refused c =
 
 pub invariant_of-result : goal.invariant_of-result
 invariant_of-result c =
-    let copies = c.in_ok-copies in
-    let own = c.atom.result ∷ [] in
-    atom_placed c.self.inside.places copies.copies.0 c.self.inside.variables c.self.inside.clauses c.self.inside.clauses copies.copies.1 c.args.position c.args.value
-    c.atom.result c.args.self.now c.self.view_is c.self.invariant (at_ok (λ (copy : List ℕ). copy ≡ c.self.inside.places) c.copy.result copies.copies.0 c.copy.ensures copies.ensures.made.0) refl
-    (at_ok (λ (made : List (List Literal)). made ≡ c.self.inside.clauses ++ own ∷ []) c.copy_with-clauses.result copies.copies.1 c.copy_with-clauses.ensures copies.ensures.made.1)
-    c.atom.ensures c.requires.atom c.in_ok-fits_one.ensures.few
+    atom_placed c.self.inside.places c.in_ok-places.places c.self.inside.variables c.self.inside.clauses c.self.inside.clauses c.in_ok-clauses.clauses c.args.position c.args.value
+    c.atom.result c.args.self.now c.self.view_is c.self.invariant c.in_ok-places.ensures refl c.in_ok-clauses.ensures c.atom.ensures c.requires.atom c.in_ok-fits_one.ensures.few
