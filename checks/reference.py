@@ -1701,17 +1701,25 @@ def pair_count(table):
     return actions * (actions - 1) // 2
 
 
-def check_ground_limits(table, laws):
+def check_ground_limits(table, laws, is_wide=False):
+    """The limits of ground laws. Where wide, heads count beside the parts."""
     check_limit("law instances", sum(choice_count(table, law) for law in laws), None)
-    check_limit("choices", sum(sum_over_instances(table, law, list_count) for law in laws), None)
-    check_limit("ground nodes", sum(4 * pair_count(table) if isinstance(law, NoConcurrency) else sum_over_instances(table, law, node_count) for law in laws), None)
+    check_limit("choices", sum(sum_over_instances(table, law, list_count, is_wide) for law in laws), None)
+    pairs = (5 if is_wide else 4) * pair_count(table)
+    check_limit("ground nodes", sum(pairs if isinstance(law, NoConcurrency) else sum_over_instances(table, law, node_count, is_wide) for law in laws), None)
 
 
-def sum_over_instances(table, law, count):
-    """What the parts of a law count, over its instances; a law without numbers counts the same in each."""
+def head_formula(head):
+    if isinstance(head, Wide):
+        return head.formula
+    return ("=", *head) if head else "false"
+
+
+def sum_over_instances(table, law, count, is_wide):
+    """What the parts of a law count, and where wide its head, over its instances; a law without numbers counts the same in each."""
     if isinstance(law, NoConcurrency):
         return 0
-    parts = [part for part in (law.body, law.after) if part is not None]
+    parts = [part for part in (law.body, law.after) if part is not None] + ([head_formula(law.head)] if is_wide else [])
     if all(is_plain(part) for part in parts):
         instances = list(itertools.islice(environments(table, law), 1))
         if not instances:

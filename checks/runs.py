@@ -266,13 +266,14 @@ def named(asked, files):
         if asked.size > LOCKS:
             raise Large
         files = {asked.file: made_text(asked.size)}
-    description, stop = described(files, asked.file, asked.mode in ("general", "generalcheck"))
+    is_wide = asked.mode in ("general", "generalcheck")
+    description, stop = described(files, asked.file, is_wide)
     if stop == "read fault":
         raise Stop(["ccalc: read fault"], 4)
     if stop is not None:
         raise Stop(["ccalc: " + stop_line(stop)], 2)
     try:
-        check_ground_limits(description.table, description.laws)
+        check_ground_limits(description.table, description.laws, is_wide)
         if asked.mode == "why":
             return description, None, key_at_most(description, 1000, asked.key)
         query = chosen(description, asked.label)

@@ -9,6 +9,7 @@ use Rattle.std.proofs.lemmas.Iterator.Adapters.{position_from-zero}
 use Rattle.std.proofs.lemmas.List.{get_or-map, length-map}
 use Rattle.std.proofs.lemmas.List.Quantifiers.{position-Some}
 use Rattle.std.proofs.lemmas.Option.{same_Some, slice_get-map}
+use Rattle.cc_defs.specs.declared.law.BaseLaw.{BaseLaw as BaseLawTree}
 use Rattle.cc_defs.specs.declared.signature.Const.{Const}
 use Rattle.cc_defs.specs.declared.signature.Kind.{Kind}
 use Rattle.cc_defs.specs.declared.signature.Symbol.{Symbol}
@@ -16,6 +17,7 @@ use Rattle.cc_defs.specs.Conditions.{HasKindOf, HaveTheirKinds, HaveTheirValues}
 use Rattle.cc_defs.specs.DeclarationFaults.{is_sort}
 use Rattle.cc_defs.specs.Grammar.{same_text}
 use Rattle.cc_defs.specs.Declarations.{Declaration, Declared, Pair, Put, action_of, boolean, number_in, sort_names, members, numbers, numbers_where, is_below, pairs, objects, object_at, object_of, placed, put_declared, puts, first_puts, first_puts_behind, firsts, symbols, symbol_of, constants, kind_of_constant, is_action, domain_of, value_sort, instances, ground_of, ground_from, ground_fluents, ground_actions}
+use Rattle.cc_defs.specs.Resolved.{BaseLaw, plain_base_law}
 use Rattle.cc_defs.specs.Signatures.{Signature, none_value}
 use Rattle.cc_defs.specs.Trees.{PlainKind}
 use Rattle.cc_defs.specs.Trees as trees
@@ -47,6 +49,14 @@ universe_is table declarations signature is of =
     ∙ ap (λ (w : List Symbol). made (universe declarations).sorts (numbers declarations) w signature)
     (ap symbols_in is.symbols_are ∙ symbols_placed declarations (constants declarations))
     ∙ ap (λ (w : Signature). made (universe declarations).sorts (numbers declarations) (symbols declarations) w) of.1
+
+-- what is said of base laws over the table is said of them over the declarations
+pub of_declarations : {Y : Type 0} (f : Universe → List BaseLaw → Y) (table : TableView) (declarations : List Declaration) (signature : Signature) (laws same : List BaseLawTree) →
+    IsTable table declarations → IsSignatureOf declarations signature → laws ≡ same →
+    f (universe_of table signature) (map plain_base_law laws) ≡ f (universe declarations) (map plain_base_law same)
+of_declarations f table declarations signature laws same is of e =
+    ap (λ (u : Universe). f u (map plain_base_law laws)) (universe_is table declarations signature is of)
+    ∙ ap (λ (l : List BaseLawTree). f (universe declarations) (map plain_base_law l)) e
 
 -- ---- numbers, each at its first place, differ
 

@@ -248,6 +248,29 @@ fn laws_within<'a>(
     laws_made(made, done)
 }
 
+/// The ground laws of base laws, or exactly the refusal of too many nodes; the actions are the Boolean ones.
+fn laws_in_room<'a>(
+    alloc: Global,
+    table: &Table,
+    sig: &Sig,
+    actions: &[u32],
+    laws: &[BaseLaw],
+    terms: Terms<'a>,
+) -> Result<Laws<'a>, Fault>
+    requires { actions.now ≡ boolean_actions (universe_of table.now sig.now) }
+    ensures made { IfOk result (λ made. plain_ground_laws made
+        ≡ words.ground_laws (universe_of table.now sig.now) (map plain_base_law laws.now)) }
+    ensures unrefused { OnOk result (node_refusal (nodes_in (words.ground_laws
+        (universe_of table.now sig.now) (map plain_base_law laws.now))) ≡ None) }
+    ensures refused { IfErr result (IsRefusedBy (node_refusal (nodes_in (words.ground_laws
+        (universe_of table.now sig.now) (map plain_base_law laws.now))))) }
+{
+    match laws_within(alloc, table, sig, actions, laws, terms) {
+        Ok(made) => Ok(made),
+        Err(halt) => Err(fault_of(halt)),
+    }
+}
+
 /// The ground laws of base laws, as `ground` answers them; the actions are the Boolean ones.
 fn laws_with<'a>(
     alloc: Global,
@@ -271,10 +294,7 @@ fn laws_with<'a>(
     if choices_of_laws(alloc, table, sig, laws)? > LimitAt::Choices.number() as usize {
         return Err(Fault::Refused(Refusal::past(LimitAt::Choices)));
     }
-    match laws_within(alloc, table, sig, actions, laws, terms) {
-        Ok(made) => Ok(made),
-        Err(halt) => Err(fault_of(halt)),
-    }
+    laws_in_room(alloc, table, sig, actions, laws, terms)
 }
 
 /// The ground laws of base laws, as `ground` answers them.
@@ -336,4 +356,28 @@ pub fn ground<'a>(
     ground_laws_mean_laws();
     ground_laws_fit();
     ground_laws(alloc, table, sig, laws, terms)
+}
+
+/// The ground laws of base laws as `ground` has them, for who has counted their instances and lists of values: it refuses more than
+/// 16,000,000 nodes alone (14, ground nodes).
+pub fn ground_within<'a>(
+    alloc: Global,
+    table: &Table,
+    sig: &Sig,
+    laws: &BaseLaws,
+    terms: &Terms<'a>,
+) -> Result<Laws<'a>, Fault>
+    requires { IsSignatureFor table.now sig.now }
+    ensures made { (declarations : Items Declaration) → IsTable table.now declarations →
+        IsSignatureOf declarations sig.now → IfOk result (λ made. plain_ground_laws made
+        ≡ words.ground_laws (universe declarations) (map plain_base_law laws.now)) }
+    ensures unrefused { (declarations : Items Declaration) →
+        IsTable table.now declarations → IsSignatureOf declarations sig.now → OnOk result
+        (node_refusal (nodes_in (words.ground_laws (universe declarations) (map plain_base_law laws.now))) ≡ None) }
+    ensures refused { (declarations : Items Declaration) →
+        IsTable table.now declarations → IsSignatureOf declarations sig.now → IfErr result
+        (IsRefusedBy (node_refusal (nodes_in (words.ground_laws (universe declarations) (map plain_base_law laws.now))))) }
+{
+    let actions = boolean_actions_of(alloc, table, sig)?;
+    laws_in_room(alloc, table, sig, &actions, laws.items(), *terms)
 }

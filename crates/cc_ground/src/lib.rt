@@ -7,6 +7,7 @@ mod bindings;
 mod choosing;
 mod conditions;
 mod counting;
+mod counts;
 mod heads;
 mod instances;
 mod judged;
@@ -20,5 +21,6 @@ mod sums;
 pub mod theorems;
 mod values;
 
-pub use instances::ground;
+pub use counts::{count_choices, count_instances};
+pub use instances::{ground, ground_within};
 pub use queries::ground_query;

@@ -17,8 +17,8 @@ use cc_wide_ground::ground_wide;
 use std::alloc::Global;
 
 /// The ground laws of a description whose heads may be of any form, as candidates and rivals ask for them: one for each instance
-/// of its laws, in order. Refuses more instances, then more nodes, than their limits (14, law instances, ground nodes), by the
-/// parts of all laws, and then by their heads.
+/// of its laws, in order. Refuses more instances, then more lists of values, then more nodes than their limits (14, law instances,
+/// choices, ground nodes), where heads count beside the parts.
 pub(crate) fn wide_laws_of<'a>(
     alloc: Global,
     said: &DescribedWide,
