@@ -3,6 +3,10 @@
 #![tactic(auto)]
 
 #[cfg(test)]
+mod calls;
+#[cfg(test)]
+mod engines;
+#[cfg(test)]
 mod make;
 #[cfg(test)]
 mod print;
