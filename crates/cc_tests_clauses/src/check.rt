@@ -6,7 +6,7 @@ ghost use Rattle.cc_form.specs.Queries.{IsQueryAt};
 ghost use Rattle.cc_theory.specs.Theories.{AreLawsFor};
 
 use cc_arena::{GroundQuery, Laws};
-use cc_check::{CheckFault, Finding, Section, Sections, Verdict, check, find, laws, put_line};
+use cc_check::{CheckFault, Finding, Section, Sections, Verdict, check, find, put_line, theorems};
 use cc_defs::{
     Cause, EndWord, Fault, List, Lit, Lits, LogLine, Nums, OutOfMemory, Row, Sig, Version,
 };

@@ -10,7 +10,7 @@ ghost use Rattle.cc_tests_clauses.specs.Digits.{axioms_behind, digits, no_descri
 
 use crate::check::{no_laws, no_query, no_signature};
 use cc_arena::{GroundQuery, Laws};
-use cc_check::{Silent, SilentVerdict, judge_silent, laws};
+use cc_check::{Silent, SilentVerdict, judge_silent, theorems};
 use cc_defs::{Cause, Fault, Key, OutOfMemory, Row, Sig, is_digit_byte};
 use cc_form::{Form, clauses};
 use cc_theory::Theory;

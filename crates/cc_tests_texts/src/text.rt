@@ -2,7 +2,7 @@
 ghost use Rattle.std.specs.Prelude.{◌≤◌, length};
 
 use cc_defs::{Fault, LimitAt, Mark, Token, TokenKind};
-use cc_text::{Tokens, laws};
+use cc_text::{Tokens, theorems};
 use std::alloc::Global;
 use std::test::Fail;
 
