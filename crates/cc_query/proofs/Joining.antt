@@ -412,11 +412,11 @@ search_spent laws now new event old solver part listed askable (kept, all, none,
     (gives_spent laws (record now { phase = phases.Searching part old listed }) askable part old listed refl all none)
 
 -- what the solver answered, by the budget that is asked
-pub step_at : (budget : ℕ) (v now : SessionView) (old new : SolverView) (r : Result Step OutOfMemory) (answer : Step) → budget ≡ v.ask.budget → v ≡ now →
-    r ≡ Ok answer → IfOk r (λ step. IsStep budget old new step) → IsStep now.ask.budget old new answer
-step_at budget v now old new r answer budget_is same answer_is step =
+pub step_at : (budget : ℕ) (v now : SessionView) (old new : SolverView) (given answer : Step) → budget ≡ v.ask.budget → v ≡ now → given ≡ answer →
+    IsStep budget old new given → IsStep now.ask.budget old new answer
+step_at budget v now old new given answer budget_is same answer_is step =
     subst (λ (n : ℕ). IsStep n old new answer) (budget_is ∙ ap (λ (s : SessionView). s.ask.budget) same)
-    (subst (λ (given : Result Step OutOfMemory). IfOk given (λ step. IsStep budget old new step)) answer_is step)
+    (subst (λ (a : Step). IsStep budget old new a) answer_is step)
 
 pub each_ok : {X E : Type 0} {P Q : X → Type 0} (r : Result X E) → ((x : X) → P x → Q x) → IfOk r P → IfOk r Q
 each_ok (Ok x) more is = more x is

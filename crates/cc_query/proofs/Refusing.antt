@@ -1,5 +1,6 @@
 -- Which limit refuses a section that opens.
-use Rattle.std.proofs.Common.{◌≡◌, ℕ, ◌≤◌, Bool, Option, Some, None, Result, Err, length, sym, subst, arith}
+use Rattle.std.proofs.Common.{◌≡◌, ℕ, ◌≤◌, Bool, Option, Some, None, Result, Ok, Err, length, sym, subst, arith}
+use Rattle.std.specs.Result.{IsErrAnd}
 use Rattle.std.specs.Prelude.{IfErr, nat_lt, not, if◌then◌else◌}
 use Rattle.std.specs.Option.{option_or}
 use Rattle.std.proofs.lemmas.Bool.Decides.{nat_tests}
@@ -25,6 +26,11 @@ rules_within d horizon few = not_past (length (timed_rules d horizon)) few
 pub refused_behind : {T : Type 0} (r : Result T Fault) (rules form : Option Refusal) → rules ≡ None → IfErr r (IsRefusedBy form) →
     IfErr r (IsRefusedBy (option_or rules form))
 refused_behind r rules form none is = subst (λ (o : Option Refusal). IfErr r (IsRefusedBy (option_or o form))) (sym none) is
+
+-- what is known of an error is so where it goes up
+pub errs : {T E : Type 0} (r : Result T E) (error : E) (P : E → Type 0) → IsErrAnd r (λ given. given ≡ error) → P error → IfErr r P
+errs (Ok value) error P is p = tt
+errs (Err given) error P is p = subst P (sym is) p
 
 -- what is said of an error that is handed on
 pub handed_on : {S : Type 0} (r : Result S Fault) (fault : Fault) (P : Fault → Type 0) → r ≡ Err fault → IfErr r P → P fault

@@ -4,6 +4,8 @@ use Rattle.std.specs.Prelude.{not, Some, slice_get, sum}
 use Rattle.std.proofs.lemmas.List.{length_push}
 use Rattle.std.proofs.lemmas.List.Sums.{sum_by-append}
 use Rattle.cc_cdcl.specs.Solvers.{SolverView, AddsDerived}
+use Rattle.cc_defs.specs.declared.log.LogLine.{LogLine}
+use Rattle.cc_defs.specs.declared.log.LogLine.TheVariants as lines
 use Rattle.cc_defs.specs.Clauses.{Literal, IsNumbered}
 use Rattle.cc_defs.specs.Rows.{IsRow}
 use Rattle.cc_defs.specs.Runs.{Ask}
@@ -78,3 +80,11 @@ last_numbered old new clause adds =
           (subst (λ (l : List Entry). slice_get (map (λ (e : Entry). e.clause) l) (length old.entries) ≡ Some clause) (sym adds.entries)
           (last_of old.entries (record { clause = clause; origin = origins.Derived }))),
     )
+
+-- the line of a clause, where the kernel was read
+pub line_of_kernel : (line : LogLine) (read kernel : KernelView) (clause : List Literal) → read ≡ kernel →
+    ((given : List Literal) → IsNumbered (clauses_of read) (length read.entries) given → line ≡ lines.Derived given read.chain) →
+    IsNumbered (clauses_of kernel) (length kernel.entries) clause → line ≡ lines.Derived clause kernel.chain
+line_of_kernel line read kernel clause same told is =
+    told clause (subst (λ (k : KernelView). IsNumbered (clauses_of k) (length k.entries) clause) (sym same) is)
+    ∙ ap (λ (k : KernelView). lines.Derived clause k.chain) same

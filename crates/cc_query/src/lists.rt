@@ -18,7 +18,6 @@ use cc_defs::{Fault, Key, OutOfMemory, Sig};
 use cc_form::{Form, Template};
 use std::alloc::Global;
 use std::marker::Model;
-use std::mem::replace;
 
 /// What the clause lists of sections are made of: a signature, its laws, and the template of both once a section with a
 /// horizon of two steps or more opens.
@@ -58,16 +57,11 @@ impl<'a> Lists<'a> {
     pub(crate) fn prepare(&mut self, alloc: Global, horizon: u32) -> Result<(), OutOfMemory>
         ensures { self.new ≡ self.old }
     {
-        if horizon < 2 || self.template.is_some() {
-            return Ok(());
+        if horizon >= 2 && self.template.is_none() {
+            let template = Template::new(alloc, self.sig, self.laws)?;
+            self.template = Some(template);
         }
-        match Template::new(alloc, self.sig, self.laws) {
-            Ok(template) => {
-                drop(replace(&mut self.template, Some(template)));
-                Ok(())
-            }
-            Err(error) => Err(error),
-        }
+        Ok(())
     }
 
     /// The clauses of a section at a horizon. Refuses the first limit that its rules or clauses pass.

@@ -24,7 +24,7 @@ use cc_defs::{Fault, Key, OutOfMemory, Sig};
 use cc_form::{Form, clauses};
 use cc_kernel::Kernel;
 use cc_theory::Theory;
-use std::alloc::{AllocError, Global};
+use std::alloc::Global;
 
 /// Whether a part denies the query's claim, where there is one.
 pub(crate) fn denies_claim(part: Part) -> bool
@@ -64,10 +64,8 @@ pub fn form_at(
         StandsForQuery (plain_ground_query query.now) d q → IfErr result (IsRefusedBy
         (refusal_at d q horizon with_claim (option_map (λ key. key.now) after.entry))) }
 {
-    match Theory::at(alloc, sig, laws, horizon) {
-        Ok(theory) => clauses(alloc, &theory, query, with_claim, after),
-        Err(fault) => Err(fault),
-    }
+    let theory = Theory::at(alloc, sig, laws, horizon)?;
+    clauses(alloc, &theory, query, with_claim, after)
 }
 
 /// The search over clauses. It takes the place of the clauses.
@@ -81,14 +79,7 @@ pub fn solver_of(alloc: Global, form: Form) -> Result<Solver, OutOfMemory>
     ensures ready { IfOk result (λ solver. solver.standing ≡ Ready) }
 {
     let variables = form.variables();
-    match Vec::from_slice(alloc, form.sizes()) {
-        Ok(sizes) => {
-            let kernel = Kernel::of(alloc, variables, form.into_clauses());
-            Solver::new(alloc, kernel, &sizes)
-        }
-        Err(AllocError) => {
-            drop(form);
-            Err(OutOfMemory)
-        }
-    }
+    let sizes = Vec::from_slice(alloc, form.sizes())?;
+    let kernel = Kernel::of(alloc, variables, form.into_clauses());
+    Solver::new(alloc, kernel, &sizes)
 }

@@ -1,5 +1,5 @@
 //! A search for the histories of a query, or for a path that goes against its claim.
-ghost use Rattle.std.specs.Prelude.{◌≡◌, ◌≢◌, ◌⊎◌, Bool, ℕ, ◌+◌, ◌<◌, ◌≤◌, ◌++◌, [], ◌∷◌, List, length, IfOk, IfErr, IfSome, IsNone, IsSome, OnErr, OnOk, Ok, Some, None, true, false};
+ghost use Rattle.std.specs.Prelude.{◌≡◌, ◌≢◌, ◌⊎◌, Bool, ℕ, ◌+◌, ◌<◌, ◌≤◌, ◌++◌, [], ◌∷◌, List, length, IfOk, IfErr, IfSome, IsNone, IsSome, OnErr, OnOk, Some, None, true, false};
 ghost use Rattle.std.specs.Option.{option_map};
 ghost use Rattle.cc_arena.specs.GroundViews.{plain_ground_query};
 ghost use Rattle.cc_cdcl.specs.Solvers.{SolverView, IsStep, Ready};
@@ -14,7 +14,6 @@ ghost use Rattle.cc_defs.specs.Runs.{axioms_of};
 ghost use Rattle.cc_defs.specs.declared.event.Event.TheVariants as events;
 ghost use Rattle.cc_defs.specs.declared.event.Told.{Told};
 ghost use Rattle.cc_defs.specs.declared.log.EndWord.TheVariants as words;
-ghost use Rattle.cc_defs.specs.declared.log.LogLine.{LogLine as LineSeen};
 ghost use Rattle.cc_defs.specs.declared.log.LogLine.TheVariants as lines;
 ghost use Rattle.cc_form.specs.Queries.{IsQueryAt};
 ghost use Rattle.cc_kernel.specs.Kernels.{derived_count};
@@ -33,19 +32,20 @@ use crate::ask::Ask;
 use crate::lists::Lists;
 use crate::opening::{denies_claim, solver_of};
 use crate::phase::{Part, Phase};
-use crate::shared::{block_line, budget_of, derived_line, is_asked, is_refuted};
+use crate::shared::{budget_of, derived_line, is_asked, is_refuted};
 use crate::theorems::search_laws;
 use cc_arena::{GroundQuery, Laws};
 use cc_cdcl::{Solver, Step};
-use cc_defs::{EndWord, Ending, Event, Fault, Key, LimitAt, LogLine, OutOfMemory, Refusal, Sig};
-use std::alloc::{AllocError, Global};
+use cc_defs::{
+    EndWord, Ending, Event, Fault, Key, LimitAt, LogLine, OutOfMemory, Refusal, Row, Sig,
+};
+use std::alloc::Global;
 use std::marker::Model;
 use std::mem;
 
 /// A search for the histories of a query at its horizons, one after another; for a query with a claim, for a path that meets
 /// the conditions and not the claim. It tells its events one by one, those of its log included, and keeps no list of them.
 /// What a horizon needs is let go before the next one begins.
-#[derive(Drop)]
 pub struct Session<'a> {
     alloc: Global,
     lists: Lists<'a>,
@@ -87,6 +87,23 @@ impl<'a> Model for Session<'a> {
       row = s.row.items;
       phase = s.phase;
     }) };
+}
+
+// By hand, so that whoever lets a session go has one call there, and not a drop for each field.
+impl<'a> Drop for Session<'a> {
+    fn drop(self) {
+        let Session {
+            alloc: _,
+            lists,
+            query: _,
+            ask: _,
+            horizon: _,
+            met: _,
+            row: _,
+            phase: _,
+        } = self;
+        drop(lists);
+    }
 }
 
 /// The first horizon that is tried.
@@ -259,16 +276,10 @@ impl<'a> Session<'a> {
     {
         let key = key_of(&self.ask);
         let denies = denies_claim(part);
-        match self
+        let form = self
             .lists
-            .form(self.alloc, &self.query, key, self.horizon, denies)
-        {
-            Ok(form) => match solver_of(self.alloc, form) {
-                Ok(solver) => Ok(solver),
-                Err(OutOfMemory) => Err(Fault::OutOfMemory),
-            },
-            Err(fault) => Err(fault),
-        }
+            .form(self.alloc, &self.query, key, self.horizon, denies)?;
+        Ok(solver_of(self.alloc, form)?)
     }
 
     // What comes next.
@@ -300,20 +311,14 @@ impl<'a> Session<'a> {
             IfErr result (IsRightFault (record self.old { phase = phase })) }
     {
         search_laws();
-        match self.prepare() {
-            Ok(()) => match self.solver(part) {
-                Ok(solver) => {
-                    self.stand(Phase::Searching {
-                        part,
-                        solver,
-                        listed: 0,
-                    });
-                    Ok(heading(part, self.horizon))
-                }
-                Err(fault) => Err(fault),
-            },
-            Err(OutOfMemory) => Err(Fault::OutOfMemory),
-        }
+        self.prepare()?;
+        let solver = self.solver(part)?;
+        self.stand(Phase::Searching {
+            part,
+            solver,
+            listed: 0,
+        });
+        Ok(heading(part, self.horizon))
     }
 
     // Makes what the clause lists of longer horizons are put together from.
@@ -336,24 +341,6 @@ impl<'a> Session<'a> {
             Ok(Event::Ended(last_ending(self.met, part)))
         } else {
             self.open(part)
-        }
-    }
-
-    // A line that was made, with what comes behind it.
-    fn told(&mut self, line: Result<LogLine, OutOfMemory>, phase: Phase) -> Result<Event, Fault>
-        requires { OnOk line (IsReady self.old.ask self.old.horizon
-            (last_at self.old.query self.old.ask.after) phase) }
-        ensures event { IfOk result (λ event.
-            (made : LineSeen) × (line ≡ Ok made) × (event ≡ events.Log made)) }
-        ensures stands { OnOk result (self.new ≡ record self.old { phase = phase }) }
-        ensures fault { IfErr result (λ fault. fault ≡ faults.OutOfMemory) }
-    {
-        match line {
-            Ok(line) => {
-                self.stand(phase);
-                Ok(Event::Log(line))
-            }
-            Err(OutOfMemory) => Err(Fault::OutOfMemory),
         }
     }
 
@@ -394,20 +381,16 @@ impl<'a> Session<'a> {
     {
         search_laws();
         if is_asked(&self.ask, listed) {
-            drop(solver);
             return Ok(self.close(Part::Histories, EndWord::Found, listed));
         }
-        let row = Vec::from_slice(self.alloc, solver.row());
-        let line = block_line(row, solver.block_row());
-        let part = Part::Histories;
-        self.told(
-            line,
-            Phase::Searching {
-                part,
-                solver,
-                listed,
-            },
-        )
+        let row = Vec::from_slice(self.alloc, solver.row())?;
+        solver.block_row()?;
+        self.stand(Phase::Searching {
+            part: Part::Histories,
+            solver,
+            listed,
+        });
+        Ok(Event::Log(LogLine::Block { row: Row::of(row) }))
     }
 
     // A row that was found: the next history; for a query with a claim the path that was looked for, and the end line.
@@ -423,20 +406,12 @@ impl<'a> Session<'a> {
             (IsRightFault (record self.old { phase = phases.Searching part before listed })) }
     {
         search_laws();
-        match Vec::from_slice(self.alloc, solver.row()) {
-            Ok(row) => {
-                if is_listing(part) {
-                    return self.history(solver, listed, row);
-                }
-                drop(solver);
-                self.row = row;
-                Ok(self.close(part, EndWord::Found, listed))
-            }
-            Err(AllocError) => {
-                drop(solver);
-                Err(Fault::OutOfMemory)
-            }
+        let row = Vec::from_slice(self.alloc, solver.row())?;
+        if is_listing(part) {
+            return self.history(solver, listed, row);
         }
+        self.row = row;
+        Ok(self.close(part, EndWord::Found, listed))
     }
 
     // The next line of a section, or its next history.
@@ -451,35 +426,25 @@ impl<'a> Session<'a> {
         search_laws();
         let budget = budget_of(&self.ask);
         if is_refuted(&solver) {
-            drop(solver);
             return Ok(self.close(part, EndWord::Empty, listed));
         }
-        match solver.next(budget) {
-            Ok(Step::Line) => {
-                let line = derived_line(self.alloc, solver.kernel());
-                self.told(
-                    line,
-                    Phase::Searching {
-                        part,
-                        solver,
-                        listed,
-                    },
-                )
+        match solver.next(budget)? {
+            Step::Line => {
+                let line = derived_line(self.alloc, solver.kernel())?;
+                self.stand(Phase::Searching {
+                    part,
+                    solver,
+                    listed,
+                });
+                Ok(Event::Log(line))
             }
-            Ok(Step::Found) => self.found(part, solver, listed),
-            Ok(Step::Refuted) => {
-                let line = derived_line(self.alloc, solver.kernel());
-                drop(solver);
-                self.told(line, Phase::Refuted { part, listed })
+            Step::Found => self.found(part, solver, listed),
+            Step::Refuted => {
+                let line = derived_line(self.alloc, solver.kernel())?;
+                self.stand(Phase::Refuted { part, listed });
+                Ok(Event::Log(line))
             }
-            Ok(Step::Spent) => {
-                drop(solver);
-                Ok(self.close(part, EndWord::Spent, listed))
-            }
-            Err(OutOfMemory) => {
-                drop(solver);
-                Err(Fault::OutOfMemory)
-            }
+            Step::Spent => Ok(self.close(part, EndWord::Spent, listed)),
         }
     }
 

@@ -18,16 +18,12 @@ pub fn derived_line(alloc: Global, kernel: &Kernel) -> Result<LogLine, OutOfMemo
         IsNumbered (clauses_of kernel.now) (length kernel.now.entries) clause →
         IfOk result (λ line. line ≡ lines.Derived clause kernel.now.chain) }
 {
-    match Vec::from_slice(alloc, kernel.clause(kernel.count())) {
-        Ok(clause) => match Vec::from_slice(alloc, kernel.chain()) {
-            Ok(chain) => Ok(LogLine::Derived {
-                clause: Lits::of(clause),
-                chain: Nums::of(chain),
-            }),
-            Err(AllocError) => Err(OutOfMemory),
-        },
-        Err(AllocError) => Err(OutOfMemory),
-    }
+    let clause = Vec::from_slice(alloc, kernel.clause(kernel.count()))?;
+    let chain = Vec::from_slice(alloc, kernel.chain())?;
+    Ok(LogLine::Derived {
+        clause: Lits::of(clause),
+        chain: Nums::of(chain),
+    })
 }
 
 /// The line that denies a row, where the row was copied, and denied.

@@ -13,7 +13,6 @@ use Rattle.cc_defs.specs.declared.log.LogLine.TheVariants as lines
 use Rattle.cc_defs.specs.declared.refusal.Fault.{Fault}
 use Rattle.cc_defs.specs.declared.refusal.Fault.TheVariants as faults
 use Rattle.cc_defs.specs.declared.refusal.LimitAt.TheVariants as limits
-use Rattle.cc_defs.specs.declared.refusal.OutOfMemory.{OutOfMemory}
 use Rattle.cc_defs.specs.Assignments.{IsEarned}
 use Rattle.cc_defs.specs.Clauses.{Literal, IsNumbered}
 use Rattle.cc_defs.specs.Histories.{AreFirstOf}
@@ -557,11 +556,11 @@ ready_taken now mid taken given mid_is given_is ready =
     subst (λ (s : SearchView). IsReady s.ask given) (sym mid_is) (subst (λ (g : Stage). IsReady now.ask g) given_is ready)
 
 -- what the solver answered, by the budget that is asked
-pub answer_at : (budget : ℕ) (v now : SearchView) (old new : SolverView) (r : Result Answer OutOfMemory) (answer : Answer) → budget ≡ v.ask.budget → v ≡ now →
-    r ≡ Ok answer → IfOk r (λ step. IsStep budget old new step) → IsStep now.ask.budget old new answer
-answer_at budget v now old new r answer budget_is same answer_is step =
+pub answer_at : (budget : ℕ) (v now : SearchView) (old new : SolverView) (given answer : Answer) → budget ≡ v.ask.budget → v ≡ now → given ≡ answer →
+    IsStep budget old new given → IsStep now.ask.budget old new answer
+answer_at budget v now old new given answer budget_is same answer_is step =
     subst (λ (n : ℕ). IsStep n old new answer) (budget_is ∙ ap (λ (s : SearchView). s.ask.budget) same)
-    (subst (λ (given : Result Answer OutOfMemory). IfOk given (λ step. IsStep budget old new step)) answer_is step)
+    (subst (λ (a : Answer). IsStep budget old new a) answer_is step)
 
 -- ---- a search that begins
 

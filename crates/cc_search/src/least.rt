@@ -102,18 +102,8 @@ pub fn search_one(alloc: Global, form: Form, budget: u32) -> Result<Outcome, Fau
     let mut search = Search::of(alloc, form, Some(1), budget)?;
     let mut lines = Vec::new(alloc);
     loop {
-        match follow(alloc, &mut search, &mut lines) {
-            Ok(Some(outcome)) => {
-                drop(lines);
-                drop(search);
-                return Ok(outcome);
-            }
-            Ok(None) => {}
-            Err(fault) => {
-                drop(lines);
-                drop(search);
-                return Err(fault);
-            }
+        if let Some(outcome) = follow(alloc, &mut search, &mut lines)? {
+            return Ok(outcome);
         }
     }
 }

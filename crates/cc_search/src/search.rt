@@ -1,12 +1,11 @@
 //! A search for the rows of one section's clauses, whatever they stand for.
-ghost use Rattle.std.specs.Prelude.{◌≡◌, ℕ, ◌+◌, ◌<◌, ◌≤◌, [], Option, length, IfOk, IfErr, IfSome, OnErr, OnOk, Ok};
+ghost use Rattle.std.specs.Prelude.{◌≡◌, ℕ, ◌+◌, ◌<◌, ◌≤◌, [], Option, length, IfOk, IfErr, IfSome, OnErr, OnOk};
 ghost use Rattle.cc_cdcl.specs.Solvers.{SolverView, IsStep};
 ghost use Rattle.cc_cdcl.specs.declared.solver.Step.TheVariants as answers;
 ghost use Rattle.cc_defs.specs.Limits.{most_histories};
 ghost use Rattle.cc_defs.specs.Refusals.{past};
 ghost use Rattle.cc_defs.specs.Runs.{Section};
 ghost use Rattle.cc_defs.specs.Sections.{Axioms};
-ghost use Rattle.cc_defs.specs.declared.log.LogLine.{LogLine as LineSeen};
 ghost use Rattle.cc_defs.specs.declared.log.LogLine.TheVariants as lines;
 ghost use Rattle.cc_defs.specs.declared.refusal.Fault.TheVariants as faults;
 ghost use Rattle.cc_defs.specs.declared.refusal.LimitAt.TheVariants as limits;
@@ -19,17 +18,16 @@ ghost use Rattle.cc_search.specs.Searches.{Gives, GoesOn, HasMore, IsBehind, IsO
 
 use crate::stage::{Find, Stage};
 use cc_cdcl::{Solver, Step};
-use cc_defs::{EndWord, Fault, LimitAt, LogLine, OutOfMemory, Refusal};
+use cc_defs::{EndWord, Fault, LimitAt, LogLine, OutOfMemory, Refusal, Row};
 use cc_form::Form;
 use cc_query::theorems::search_laws;
-use cc_query::{Ask, block_line, budget_of, derived_line, is_asked, is_refuted, solver_of};
-use std::alloc::{AllocError, Global};
+use cc_query::{Ask, budget_of, derived_line, is_asked, is_refuted, solver_of};
+use std::alloc::Global;
 use std::marker::Model;
 use std::mem;
 
 /// A search for the rows of one section's clauses in ascending order, each once, within a budget of derived lines. It tells the
 /// lines of its log and its rows one by one, and keeps no list of them.
-#[derive(Drop)]
 pub struct Search {
     alloc: Global,
     // It asks for no key.
@@ -50,6 +48,20 @@ impl Model for Search {
 
     ghost invariant = { λ s.
         IsSearch (record { ask = s.ask; axioms = s.axioms; row = s.row.items; stage = s.stage }) };
+}
+
+// By hand, so that whoever lets a search go has one call there, and not a drop for each field.
+impl Drop for Search {
+    fn drop(self) {
+        let Search {
+            alloc: _,
+            ask: _,
+            axioms: _,
+            row: _,
+            stage,
+        } = self;
+        drop(stage);
+    }
 }
 
 impl Search {
@@ -110,25 +122,6 @@ impl Search {
         drop(before);
     }
 
-    // A line that was made, with what comes behind it.
-    fn told(&mut self, line: Result<LogLine, OutOfMemory>, stage: Stage) -> Result<Find, Fault>
-        requires ready { OnOk line (IsReady self.old.ask stage) }
-        requires over { IsOver self.old }
-        ensures find { IfOk result (λ find.
-            (made : LineSeen) × (line ≡ Ok made) × (find ≡ finds.Line made)) }
-        ensures stands { OnOk result (self.new ≡ record self.old { stage = stage }) }
-        ensures fault { IfErr result (λ fault. fault ≡ faults.OutOfMemory) }
-        ensures over { OnErr result (IsOver self.new) }
-    {
-        match line {
-            Ok(line) => {
-                self.stand(stage);
-                Ok(Find::Line(line))
-            }
-            Err(OutOfMemory) => Err(Fault::OutOfMemory),
-        }
-    }
-
     // The next row. It is not denied yet.
     fn tell(&mut self, solver: Solver, listed: u32, row: Vec<u32>) -> Result<Find, Fault>
         requires found { HasFound solver }
@@ -167,13 +160,8 @@ impl Search {
         ensures over { OnErr result (IsOver self.new) }
     {
         search_laws();
-        match Vec::from_slice(self.alloc, solver.row()) {
-            Ok(row) => self.tell(solver, listed, row),
-            Err(AllocError) => {
-                drop(solver);
-                Err(Fault::OutOfMemory)
-            }
-        }
+        let row = Vec::from_slice(self.alloc, solver.row())?;
+        self.tell(solver, listed, row)
     }
 
     // Behind a row: it is the last one that was asked for, or it is denied.
@@ -187,12 +175,12 @@ impl Search {
     {
         search_laws();
         if is_asked(&self.ask, listed) {
-            drop(solver);
             return Ok(Find::End(EndWord::Found));
         }
-        let row = Vec::from_slice(self.alloc, solver.row());
-        let line = block_line(row, solver.block_row());
-        self.told(line, Stage::Searching { solver, listed })
+        let row = Vec::from_slice(self.alloc, solver.row())?;
+        solver.block_row()?;
+        self.stand(Stage::Searching { solver, listed });
+        Ok(Find::Line(LogLine::Block { row: Row::of(row) }))
     }
 
     // The next line of the section, its next row, or its end.
@@ -208,28 +196,21 @@ impl Search {
         search_laws();
         let budget = budget_of(&self.ask);
         if is_refuted(&solver) {
-            drop(solver);
             return Ok(Find::End(EndWord::Empty));
         }
-        match solver.next(budget) {
-            Ok(Step::Line) => {
-                let line = derived_line(self.alloc, solver.kernel());
-                self.told(line, Stage::Searching { solver, listed })
+        match solver.next(budget)? {
+            Step::Line => {
+                let line = derived_line(self.alloc, solver.kernel())?;
+                self.stand(Stage::Searching { solver, listed });
+                Ok(Find::Line(line))
             }
-            Ok(Step::Found) => self.found(solver, listed),
-            Ok(Step::Refuted) => {
-                let line = derived_line(self.alloc, solver.kernel());
-                drop(solver);
-                self.told(line, Stage::Refuted)
+            Step::Found => self.found(solver, listed),
+            Step::Refuted => {
+                let line = derived_line(self.alloc, solver.kernel())?;
+                self.stand(Stage::Refuted);
+                Ok(Find::Line(line))
             }
-            Ok(Step::Spent) => {
-                drop(solver);
-                Ok(Find::End(EndWord::Spent))
-            }
-            Err(OutOfMemory) => {
-                drop(solver);
-                Err(Fault::OutOfMemory)
-            }
+            Step::Spent => Ok(Find::End(EndWord::Spent)),
         }
     }
 

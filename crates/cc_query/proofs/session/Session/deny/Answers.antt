@@ -1,11 +1,9 @@
-use Rattle.std.proofs.Common.{◌∙◌, ◌≡◌, List, ap, refl, subst, sym, ℕ}
+use Rattle.std.proofs.Common.{◌∙◌, ℕ, List, Ok, ap, refl, sym}
 use Rattle.cc_query.specs.declared.phase.Phase.TheVariants as phases
 use Rattle.cc_query.specs.Sessions.{SessionView}
 use Rattle.cc_query.proofs.Giving.{gives_asked}
-use Rattle.cc_query.proofs.Joining.{askable_of, block_gives, block_ready, blocked_is, found_one, gives_at, on_both, on_denied, on_each, told_line, told_on}
-use Rattle.std.specs.Prelude.{IfOk}
+use Rattle.cc_query.proofs.Joining.{askable_of, block_gives, block_ready, blocked_is, found_one, gives_at}
 use Rattle.cc_defs.specs.declared.event.Event.TheVariants as events
-use Rattle.cc_defs.specs.declared.log.LogLine.{LogLine}
 use Rattle.cc_defs.specs.declared.log.LogLine.TheVariants as lines
 use Rattle.cc_query.proofs.Within.{few_entries}
 use Rattle.cc_query.proofs.session.Session.deny.Goals as goal
@@ -19,26 +17,18 @@ returns-then-is_asked-clause-gives c =
 
 pub returns-clause-gives : goal.returns-clause-gives
 returns-clause-gives c =
-    block_gives c.search_laws.ensures c.told.result c.args.self.now c.told.new.self c.args.solver c.args.listed
+    block_gives c.search_laws.ensures (Ok (events.Log (lines.Block c.of.result))) c.args.self.now c.stand.new.self c.args.solver c.args.listed
     (askable_of _ c.args.self.now c.self.view_is c.self.invariant)
     (λ is. c.is_asked.ensures.other c.if-is_asked.false (ap (λ (v : SessionView). v.ask.count) c.self.view_is ∙ is))
     (λ row there.
-    told_line (λ (made : LogLine). events.Log made) c.told.result c.block_line-line.result (lines.Block row) c.told.ensures.event
-    (c.block_line-line.ensures.line row
-    (subst (λ (items : List ℕ). IfOk c.from_slice-row.result (λ given. given.items ≡ items)) (found_one c.args.solver c.row.result.now row c.row.ensures there)
-    c.from_slice-row.ensures.items)))
-    (on_both c.told.result (λ blocked stands. (c.block_row.new.self, blocked_is c.args.solver c.block_row.new.self c.requires.1 blocked, stands))
-    (told_on _ (λ (made : LogLine). events.Log made) c.told.result c.block_line-line.result c.told.ensures.event
-    (on_denied _ c.block_line-line.result c.block_row.result c.block_line-line.ensures.denied c.block_row.ensures.blocked))
-    c.told.ensures.stands)
+    ap (λ (items : List ℕ). events.Log (lines.Block items)) (c.of.ensures ∙ c.in_ok-row.ensures.items ∙ found_one c.args.solver c.row.result.now row c.row.ensures there))
+    (c.block_row.new.self, blocked_is c.args.solver c.block_row.new.self c.requires.1 c.in_ok-block_row.ensures.blocked, c.stand.ensures)
     c.requires.1 c.requires.2
 
-pub told-requires : goal.told-requires
-told-requires c =
-    on_each c.block_line-line.result (λ blocked.
-    let ready = block_ready c.args.self.now.ask c.args.solver c.block_row.new.self c.args.listed c.requires.1 c.requires.2 blocked in
-    (c.requires.0, ready.0, ready.1))
-    (on_denied _ c.block_line-line.result c.block_row.result c.block_line-line.ensures.denied c.block_row.ensures.blocked)
+pub stand-requires : goal.stand-requires
+stand-requires c =
+    let ready = block_ready c.args.self.now.ask c.args.solver c.block_row.new.self c.args.listed c.requires.1 c.requires.2 c.in_ok-block_row.ensures.blocked in
+    (c.requires.0, ready.0, ready.1)
 
 pub block_row-requires-clause-few : goal.block_row-requires-clause-few
 block_row-requires-clause-few c = few_entries c.args.self.now.ask c.args.solver c.requires.2.0 (askable_of _ c.args.self.now c.self.view_is c.self.invariant).budget c.requires.2.3

@@ -13,26 +13,26 @@ pub returns-then-is_listing-clause-gives : goal.returns-then-is_listing-clause-g
 returns-then-is_listing-clause-gives c = λ before step.
     subst (λ (p : Part). IfOk c.history.result (Gives (record c.args.self.now { phase = phases.Searching p before c.args.listed }) c.history.new.self))
     (sym (c.is_listing.ensures.is c.if-is_listing.true))
-    (history_gives c.search_laws.ensures c.history.result c.args.self.now c.history.new.self before c.args.solver c.args.listed c.in-Ok.row.items
-    (askable_of _ c.args.self.now c.self.view_is c.self.invariant) step (c.row.ensures ∙ ap (λ (r : List ℕ). Found r) (sym c.in-Ok.ensures.items))
+    (history_gives c.search_laws.ensures c.history.result c.args.self.now c.history.new.self before c.args.solver c.args.listed c.in_ok-row.row.items
+    (askable_of _ c.args.self.now c.self.view_is c.self.invariant) step (c.row.ensures ∙ ap (λ (r : List ℕ). Found r) (sym c.in_ok-row.ensures.items))
     c.history.ensures.event c.history.ensures.stands c.history.ensures.few)
 
 pub returns-then-is_listing-clause-fault : goal.returns-then-is_listing-clause-fault
 returns-then-is_listing-clause-fault c = λ before step.
     subst (λ (p : Part). IfErr c.history.result (IsRightFault (record c.args.self.now { phase = phases.Searching p before c.args.listed })))
     (sym (c.is_listing.ensures.is c.if-is_listing.true))
-    (history_fault c.search_laws.ensures c.history.result c.args.self.now before c.args.solver c.args.listed c.in-Ok.row.items
-    (askable_of _ c.args.self.now c.self.view_is c.self.invariant) step (c.row.ensures ∙ ap (λ (r : List ℕ). Found r) (sym c.in-Ok.ensures.items))
+    (history_fault c.search_laws.ensures c.history.result c.args.self.now before c.args.solver c.args.listed c.in_ok-row.row.items
+    (askable_of _ c.args.self.now c.self.view_is c.self.invariant) step (c.row.ensures ∙ ap (λ (r : List ℕ). Found r) (sym c.in_ok-row.ensures.items))
     c.history.ensures.fault c.history.ensures.many)
 
-pub returns-else-is_listing-clause-gives : goal.returns-else-is_listing-clause-gives
-returns-else-is_listing-clause-gives c = λ before step.
-    path_gives c.search_laws.ensures c.args.self.now c.close.new.self c.close.result before c.args.solver c.args.part c.args.listed c.in-Ok.row.items
+pub returns-clause-gives : goal.returns-clause-gives
+returns-clause-gives c = λ before step.
+    path_gives c.search_laws.ensures c.args.self.now c.close.new.self c.close.result before c.args.solver c.args.part c.args.listed c.in_ok-row.row.items
     (askable_of _ c.args.self.now c.self.view_is c.self.invariant) (c.is_listing.ensures.other c.if-is_listing.false) step
-    (c.row.ensures ∙ ap (λ (r : List ℕ). Found r) (sym c.in-Ok.ensures.items))
+    (c.row.ensures ∙ ap (λ (r : List ℕ). Found r) (sym c.in_ok-row.ensures.items))
     c.close.ensures.event
     (c.close.ensures.closed
-    ∙ ap (λ (v : SessionView). let s : SessionView = record v { row = c.in-Ok.row.items; phase = phases.Closed c.args.part words.Found c.args.listed } in s) c.self.view_is)
+    ∙ ap (λ (v : SessionView). let s : SessionView = record v { row = c.in_ok-row.row.items; phase = phases.Closed c.args.part words.Found c.args.listed } in s) c.self.view_is)
 
 pub history-requires-clause-low : goal.history-requires-clause-low
 history-requires-clause-low c = c.requires.low

@@ -7,30 +7,33 @@ use Rattle.cc_query.specs.Parts.{is_conditions}
 use Rattle.cc_query.specs.Sessions.{SessionView, IsRightFault, IsSessionOf, last_at}
 use Rattle.cc_query.proofs.Giving.{gives_heading}
 use Rattle.cc_query.proofs.Joining.{askable_of, gives_at, opening_fault}
+use Rattle.cc_query.proofs.Refusing.{errs}
 use Rattle.cc_query.proofs.session.Session.open.Goals as goal
 
 pub solver-requires : goal.solver-requires
 solver-requires c = subst (λ (s : SessionView). s.horizon ≤ last_at s.query s.ask.after) (sym c.prepare.ensures) c.requires
 
-pub returns-in-Err-solver-clause-fault : goal.returns-in-Err-solver-clause-fault
-returns-in-Err-solver-clause-fault c = λ phase opens.
-    subst (λ (s : SessionView). IsRightFault (record s { phase = phase }) c.in-Err-solver.fault) c.prepare.ensures
-    (opening_fault c.solver.result c.in-Err-solver.fault (record c.prepare.new.self { phase = phase }) c.args.part opens
+pub returns-in_err-solver-clause-fault : goal.returns-in_err-solver-clause-fault
+returns-in_err-solver-clause-fault c = λ phase opens.
+    let fault = c.in_err-solver.field-0.0 in
+    errs c.from_residual-in_err-solver.result fault (IsRightFault (record c.args.self.now { phase = phase })) c.from_residual-in_err-solver.ensures.1
+    (subst (λ (s : SessionView). IsRightFault (record s { phase = phase }) fault) c.prepare.ensures
+    (opening_fault c.solver.result fault (record c.prepare.new.self { phase = phase }) c.args.part opens
     (subst (λ (s : SessionView). s.horizon ≤ last_at s.query s.ask.after) (sym c.prepare.ensures) c.requires)
-    c.in-Err-solver.is (λ d q of. c.solver.ensures.refused d q (record { laws = of.laws; query = of.query })))
+    c.in_err-solver.was (λ d q of. c.solver.ensures.refused d q (record { laws = of.laws; query = of.query }))))
 
-pub returns-in-Ok-solver-clause-gives : goal.returns-in-Ok-solver-clause-gives
-returns-in-Ok-solver-clause-gives c = λ phase opens.
+pub returns-clause-gives : goal.returns-clause-gives
+returns-clause-gives c = λ phase opens.
     let same = c.self.view_is ∙ c.stand.ensures in
     subst (λ (s : SessionView). Gives (record s { phase = phase }) c.stand.new.self c.heading.result) c.prepare.ensures
     (gives_at (record c.prepare.new.self { phase = phase }) c.stand.new.self
-    (record c.prepare.new.self { phase = phases.Searching c.args.part c.in-Ok-solver.solver 0 })
+    (record c.prepare.new.self { phase = phases.Searching c.args.part c.in_ok-solver.solver 0 })
     c.heading.result (events.Log (lines.Section (is_conditions c.args.part) c.prepare.new.self.horizon)) c.stand.ensures
     (c.heading.ensures ∙ ap (λ (v : SessionView). events.Log (lines.Section (is_conditions c.args.part) v.horizon)) same)
     (gives_heading c.search_laws.ensures (record c.prepare.new.self { phase = phase })
-    (askable_of _ (record c.prepare.new.self { phase = phases.Searching c.args.part c.in-Ok-solver.solver 0 }) same c.self.invariant)
-    c.args.part c.in-Ok-solver.solver c.in-Ok-solver.ensures.fresh opens
+    (askable_of _ (record c.prepare.new.self { phase = phases.Searching c.args.part c.in_ok-solver.solver 0 }) same c.self.invariant)
+    c.args.part c.in_ok-solver.solver c.in_ok-solver.ensures.fresh opens
     (subst (λ (s : SessionView). s.horizon ≤ last_at s.query s.ask.after) (sym c.prepare.ensures) c.requires)
     (λ d q of.
     let there : IsSessionOf c.prepare.new.self d q = record { laws = of.laws; query = of.query } in
-    (c.in-Ok-solver.ensures.made d q there, c.in-Ok-solver.ensures.rows d q there, c.in-Ok-solver.ensures.within d q there, c.in-Ok-solver.ensures.good d q there))))
+    (c.in_ok-solver.ensures.made d q there, c.in_ok-solver.ensures.rows d q there, c.in_ok-solver.ensures.within d q there, c.in_ok-solver.ensures.good d q there))))

@@ -1,8 +1,6 @@
-use Rattle.std.proofs.Common.{◌∙◌, ◌≡◌, List, ap, subst, sym, ℕ}
-use Rattle.std.specs.Prelude.{IfOk}
-use Rattle.cc_defs.specs.declared.log.LogLine.{LogLine}
+use Rattle.std.proofs.Common.{◌∙◌, ℕ, List, Ok, ap, sym}
 use Rattle.cc_defs.specs.declared.log.LogLine.TheVariants as lines
-use Rattle.cc_query.proofs.Joining.{block_ready, blocked_is, found_one, on_both, on_denied, on_each, told_line, told_on}
+use Rattle.cc_query.proofs.Joining.{block_ready, blocked_is, found_one}
 use Rattle.cc_query.proofs.Within.{few_entries}
 use Rattle.cc_search.specs.Searches.{SearchView}
 use Rattle.cc_search.proofs.Finding.{asked_ends, block_gives, budget_low}
@@ -16,24 +14,16 @@ returns-then-is_asked-clause-gives c =
 
 pub returns-clause-gives : goal.returns-clause-gives
 returns-clause-gives c =
-    block_gives c.search_laws.ensures c.told.result c.args.self.now c.told.new.self c.args.solver c.args.listed
+    block_gives c.search_laws.ensures (Ok (finds.Line (lines.Block c.of.result))) c.args.self.now c.stand.new.self c.args.solver c.args.listed
     (budget_low _ c.args.self.now c.self.view_is c.self.invariant)
     (λ is. c.is_asked.ensures.other c.if-is_asked.false (ap (λ (v : SearchView). v.ask.count) c.self.view_is ∙ is))
     (λ row there.
-    told_line (λ (made : LogLine). finds.Line made) c.told.result c.block_line-line.result (lines.Block row) c.told.ensures.find
-    (c.block_line-line.ensures.line row
-    (subst (λ (items : List ℕ). IfOk c.from_slice-row.result (λ given. given.items ≡ items)) (found_one c.args.solver c.row.result.now row c.row.ensures there)
-    c.from_slice-row.ensures.items)))
-    (on_both c.told.result (λ blocked stands. (c.block_row.new.self, blocked_is c.args.solver c.block_row.new.self c.requires.ready.0 blocked, stands))
-    (told_on _ (λ (made : LogLine). finds.Line made) c.told.result c.block_line-line.result c.told.ensures.find
-    (on_denied _ c.block_line-line.result c.block_row.result c.block_line-line.ensures.denied c.block_row.ensures.blocked))
-    c.told.ensures.stands)
+    ap (λ (items : List ℕ). finds.Line (lines.Block items)) (c.of.ensures ∙ c.in_ok-row.ensures.items ∙ found_one c.args.solver c.row.result.now row c.row.ensures there))
+    (c.block_row.new.self, blocked_is c.args.solver c.block_row.new.self c.requires.ready.0 c.in_ok-block_row.ensures.blocked, c.stand.ensures)
     c.requires.ready.0 c.requires.ready.1
 
-pub told-requires-clause-ready : goal.told-requires-clause-ready
-told-requires-clause-ready c =
-    on_each c.block_line-line.result (λ blocked. block_ready c.args.self.now.ask c.args.solver c.block_row.new.self c.args.listed c.requires.ready.0 c.requires.ready.1 blocked)
-    (on_denied _ c.block_line-line.result c.block_row.result c.block_line-line.ensures.denied c.block_row.ensures.blocked)
+pub stand-requires : goal.stand-requires
+stand-requires c = block_ready c.args.self.now.ask c.args.solver c.block_row.new.self c.args.listed c.requires.ready.0 c.requires.ready.1 c.in_ok-block_row.ensures.blocked
 
 pub block_row-requires-clause-few : goal.block_row-requires-clause-few
 block_row-requires-clause-few c = few_entries c.args.self.now.ask c.args.solver c.requires.ready.1.0 (budget_low _ c.args.self.now c.self.view_is c.self.invariant) c.requires.ready.1.3
