@@ -3,6 +3,7 @@
 It takes five pictures of what is seen; with --write they stand in docs/pictures after it. What is to be seen was worked out by hand.
 """
 import base64
+import contextlib
 import os
 import pathlib
 import shutil
@@ -11,12 +12,15 @@ import tempfile
 import time
 import unittest
 from typing import Any, Callable, Dict, List, Optional
+from unittest import mock
 
 from selenium import webdriver  # type: ignore[import]
 from selenium.webdriver.chrome.service import Service  # type: ignore[import]
+from selenium.webdriver.common.action_chains import ActionChains  # type: ignore[import]
 from selenium.webdriver.common.by import By  # type: ignore[import]
 from selenium.webdriver.common.keys import Keys  # type: ignore[import]
-from selenium.webdriver.support.ui import Select, WebDriverWait  # type: ignore[import]
+from selenium.webdriver.support.select import Select  # type: ignore[import]
+from selenium.webdriver.support.wait import WebDriverWait  # type: ignore[import]
 
 page: Any = sys.modules["__main__"]  # checks/page, which has the server and its stand-ins
 
@@ -39,11 +43,42 @@ const faint = [];
 const walker = document.createTreeWalker(document.body, NodeFilter.SHOW_TEXT);
 while (walker.nextNode()) {
   const element = walker.currentNode.parentElement;
-  if (!walker.currentNode.data.trim() || !element.checkVisibility() || element.closest("svg, script, style, noscript, .skip, select")) continue;
+  const text = walker.currentNode.data.trim();
+  if (!text || !element.checkVisibility() || element.closest("svg, script, style, noscript, .skip, select")) continue;
   const [one, other] = [light(parts(getComputedStyle(element).color)), light(behind(element))].sort((a, b) => b - a);
-  if ((one + 0.05) / (other + 0.05) < 4.5) faint.push(`${element.tagName}.${element.className}: ${walker.currentNode.data.trim().slice(0, 40)}`);
+  if ((one + 0.05) / (other + 0.05) < 4.5) faint.push(`${element.tagName}.${element.className}: ${text.slice(0, 40)}`);
 }
 return faint;
+"""
+# In the page: what has the focus, by the names that it goes by; and whether that is to be seen.
+FOCUSED = """
+const one = document.activeElement;
+const shown = one.closest(".CodeMirror") || one;
+const style = getComputedStyle(shown);
+return [[one.getAttribute("aria-label"), one.textContent, one.id, shown === one ? null : "the text"],
+        one === document.body || (style.outlineStyle !== "none" && parseFloat(style.outlineWidth) >= 2 && shown.checkVisibility())];
+"""
+# In the page: how far anything stands out of the window, to the right.
+WIDER = "return document.documentElement.scrollWidth - document.documentElement.clientWidth"
+# A description whose search takes longer than anyone waits: the sum of two accounts stays.
+LONG = """:- sorts number.
+:- objects 0..100 :: number.
+:- variables M, N, K :: number.
+:- constants a, b :: inertialFluent(number); pay :: exogenousAction; much :: attribute(number) of pay.
+pay causes a=N-K if much=K & a=N.
+pay causes b=M+K if much=K & b=M.
+nonexecutable pay if much>a.
+nonexecutable pay if b+much>100.
+:- query label :: sum; maxstep :: 3; 0: a+b=100; claim :: maxstep: a+b=100.
+"""
+MANY = ":- constants " + ", ".join(f"p{number}" for number in range(17)) + " :: simpleFluent.\n:- query label :: all; maxstep :: 0.\n"
+# Nothing is done in its one history, so `to` has no value there.
+REST = """:- sorts place.
+:- objects home, office :: place.
+:- variables P :: place.
+:- constants at :: inertialFluent(place); go :: exogenousAction; to :: attribute(place) of go.
+go causes at=P if to=P.
+:- query label :: rest; maxstep :: 1; 0: at=home & -go.
 """
 
 
@@ -53,14 +88,14 @@ def made_driver(profile: str) -> Any:
              f"--user-data-dir={profile}", "--host-resolver-rules=MAP * ~NOTFOUND , EXCLUDE 127.0.0.1", "--no-first-run"]
     for word in words + (["--no-sandbox"] if os.geteuid() == 0 else []):
         options.add_argument(word)
-    options.binary_location = shutil.which("chromium")
+    options.binary_location = shutil.which("chromium") or ""
     options.set_capability("unhandledPromptBehavior", "accept")  # that a text is not saved
     options.set_capability("goog:loggingPrefs", {"browser": "ALL"})
-    return webdriver.Chrome(service=Service(shutil.which("chromedriver")), options=options)
+    return webdriver.Chrome(service=Service(shutil.which("chromedriver") or ""), options=options)
 
 
-class Lesson(unittest.TestCase):
-    """A lesson over a copy of the examples."""
+class Browser(unittest.TestCase):
+    """A browser over a copy of some examples, and over a stand-in for the program that does what is hard to come by."""
 
     driver: Any
     made: "tempfile.TemporaryDirectory[str]"
@@ -71,9 +106,12 @@ class Lesson(unittest.TestCase):
     def setUpClass(cls) -> None:
         cls.made = tempfile.TemporaryDirectory()
         root = pathlib.Path(cls.made.name)
-        for name in ("lamp.cc", "lights.cc", "toss.cc"):
+        for name in ("lamp.cc", "lights.cc", "lights-mended.cc", "toss.cc"):
             shutil.copy(HOME / "examples" / name, root)
         (root / "<b onclick=x>.cc").write_text(page.LAMP)
+        (root / "mine.cc").write_text(page.LAMP)
+        (root / "laws.cc").write_text(page.LAMP)
+        (root / "asked.cc").write_text("% The laws stand in another file.\n:- include 'laws.cc'.\n")
         (root / "large.cc").write_text(page.LAMP + ("% " + "x" * 100 + "\n") * 50000)
         strange = root / "strange"
         strange.write_text(page.STRANGE.format(python=sys.executable))
@@ -108,14 +146,18 @@ class Lesson(unittest.TestCase):
     def click(self, words: str, within: str = "body") -> None:
         """Clicks the button with these words, or with this spoken name."""
         path = f".//button[normalize-space()='{words}' or @aria-label='{words}']"
-        self.wait(lambda: [one for one in self.there(within)[0].find_elements(By.XPATH, path) if one.is_displayed() and one.is_enabled()], words)[0].click()
+        found = lambda: self.there(within)[0].find_elements(By.XPATH, path)  # noqa: E731
+        self.wait(lambda: [one for one in found() if one.is_displayed() and one.is_enabled()], words)[0].click()
 
-    def open(self, name: str, served: Optional[Any] = None) -> None:
+    def visit(self, served: Optional[Any] = None) -> None:
         served = served or self.served
         self.driver.get("about:blank")
         self.driver.set_window_size(1280, 1000)
         self.driver.get(f"http://127.0.0.1:{served.port}/{served.token}/")
         self.wait(lambda: self.there("#file option"), "the files")
+
+    def open(self, name: str, served: Optional[Any] = None) -> None:
+        self.visit(served)
         Select(self.there("#file")[0]).select_by_value(name)
         self.wait(lambda: self.driver.title == f"{name} - CCalc", name)
 
@@ -123,9 +165,39 @@ class Lesson(unittest.TestCase):
         """Puts a text into the editor, as one would paste it."""
         self.driver.execute_script("document.querySelector('.CodeMirror').CodeMirror.setValue(arguments[0])", text)
 
+    def ask(self, name: str, label: str, words: str) -> None:
+        """Opens a description, asks a query, and waits for these words of the verdict."""
+        self.open(name)
+        self.click(f"Ask: {label}")
+        self.sees("#verdict", words)
+
+    def width_of(self, selector: str) -> float:
+        return float(self.driver.execute_script("return document.querySelector(arguments[0]).getBoundingClientRect().width", selector))
+
+    def hands(self) -> Any:
+        """The mouse and the keys."""
+        made: Any = ActionChains
+        return made(self.driver)
+
+    def press(self, *keys: str) -> None:
+        self.hands().send_keys(*keys).perform()
+
+    def reach(self, words: str, key: str = Keys.TAB) -> None:
+        """Presses Tab until what has these words has the focus; on the way the focus is to be seen everywhere."""
+        seen = []
+        for _ in range(90):
+            self.press(key)
+            names, is_shown = self.driver.execute_script(FOCUSED)
+            self.assertTrue(is_shown, names)
+            seen.append(names)
+            if words in names:
+                return
+        self.fail(f"{words} is not reached: {seen}")
+
     def picture(self, name: str, width: int = 1280) -> None:
-        """Takes a picture of all that the page shows."""
+        """Takes a picture of all that the page shows, with the mouse out of the way."""
         self.driver.set_window_size(width, 700)
+        self.hands().move_to_element(self.there("header h1")[0]).perform()
         self.driver.execute_script("window.scrollTo(0, 0); document.activeElement.blur();")
         time.sleep(0.3)
         height = self.driver.execute_script("return document.documentElement.scrollHeight")
@@ -139,17 +211,34 @@ class Lesson(unittest.TestCase):
         path.write_bytes(base64.b64decode(found["data"]))
         self.assertGreater(path.stat().st_size, 10000)
 
+    def wrong(self) -> List[str]:
+        """What the browser has said of faults since it was asked last; that a text is not saved is none."""
+        said = [one["message"] for one in self.driver.get_log("browser") if one["level"] == "SEVERE"]
+        return [one for one in said if "beforeunload" not in one]
+
+    def says(self, path: str) -> None:
+        """The browser has said of faults of this path, and of no others."""
+        self.assertEqual({path in one for one in self.wrong()}, {True})
+
     def tearDown(self) -> None:
-        wrong = [one["message"] for one in self.driver.get_log("browser") if one["level"] == "SEVERE"]
-        self.assertEqual([one for one in wrong if "beforeunload" not in one], [])
+        self.assertEqual(self.wrong(), [])
         if self.there("main"):
             self.assertEqual(self.driver.execute_script(FAINT), [])
 
-    # The lesson
+    def has_program(self) -> None:
+        """Leaves a test out that the stand-in for a program would take too long for."""
+        if os.environ["CCALC_PROGRAM"].endswith("second_program"):
+            self.skipTest("the calculator is not built")
+
+
+class Lesson(Browser):
+    """The lesson, and what else the page shows."""
 
     def test_1_plan_picture_and_why(self) -> None:
         self.open("lamp.cc")
         self.sees("#problems", "Nothing is refused.")
+        self.assertEqual({one.text for one in self.there(".cm-keyword")}, {"causes", "if"})
+        self.assertEqual([one.text for one in self.there(".cm-comment")], ["% A lamp that may be flipped: how is it on, if it was off?"])
         self.click("Ask: 1")
         self.sees("#verdict", "horizon 1: complete, 1 listed")
         self.sees("#history", "0 nothing is true Step on does flip 1 on Step on")
@@ -174,7 +263,7 @@ class Lesson(unittest.TestCase):
             self.sees("#choices", f"What can be done at step {step}")
             [choice] = [one for one in self.there("#choices .choice") if one.text.startswith("flip")]
             choice.click()
-            self.sees("#walk", f"{step + 1} steps by hand")
+            self.sees("#walk", "1 step by hand" if step == 0 else f"{step + 1} steps by hand")
         self.sees("#choices", "What can be done at step 3, and what comes of it: nothing → nothing changes flip → on is false")
         self.assertEqual(self.text("#walk tbody"), "0 nothing is true does flip 1 on does flip 2 -on does flip 3 on")
         self.there("#walk .value.gone")[0].click()
@@ -217,11 +306,116 @@ class Lesson(unittest.TestCase):
         self.sees("#judged", "log accepted: horizons 0 to 1, blocked 1")
         self.picture("log")
 
+    def test_judged_logs_of_a_claim_and_of_what_is_certain(self) -> None:
+        self.has_program()
+        self.ask("lights-mended.cc", "safe", "claim holds")
+        self.click("Judge its log: safe")
+        self.sees("#judged", "log accepted: horizons 0 to 3, blocked 0")
+        self.open("lamp.cc")
+        self.click("Certain?: 1")
+        self.sees("#verdict", "complete")
+        self.click("Judge its log: 1")
+        self.sees("#judged", "log accepted: impossible 3")
+        self.sees("#judgement", "surecheck mode judged it")
+
     def test_sure_is_a_table(self) -> None:
         self.open("lamp.cc")
         self.click("Certain?: 1")
         self.sees("#sure", "0 on false true 0 flip true false 1 on true false")
         self.sees("#history", "Example 1, 1 step.")
+        self.open("toss.cc")
+        self.click("Certain?: 1")
+        self.sees("#sure", "1 heads false (example 1) true (example 2)")
+        self.click("true (example 2)")
+        self.sees("#history", "Example 2, 1 step. A click on a value asks why. Step Values 0 nothing is true Step on does toss 1 heads")
+
+    def test_claim_fails_at_the_step_that_it_names(self) -> None:
+        self.open("lamp.cc")
+        self.write(page.MATCH.replace("maxstep :: 1;", "maxstep :: 2;").replace("claim :: maxstep", "claim :: 1"))
+        self.click("Ask: dark")
+        self.sees("#history tr.fails", "1 The claim fails here. burnt lit")
+
+    def test_attributes_without_a_value_are_folded_away(self) -> None:
+        self.open("lamp.cc")
+        self.write(REST)
+        self.click("Ask: rest")
+        self.sees("#history", "0 at=home Step on does nothing 1 at=home Step on")
+        self.click("Show false and none too")
+        self.sees("#history", "0 at=home Step on does -go to=none 1 at=home Step on")
+
+    def test_transitions_as_a_picture(self) -> None:
+        self.ask("toss.cc", "transitions", "complete, 6 listed")
+        self.click("Transitions")
+        self.wait(lambda: len(self.there("#drawing g.node")) == 2, "two states")
+        edges = sorted(" ".join(one.text.split()) for one in self.there("#drawing g.edge"))
+        self.assertEqual(edges, ["nothing toss", "nothing toss", "toss", "toss"])
+
+    def test_picture_is_made_larger_and_moved(self) -> None:
+        self.ask("lights.cc", "safe", "claim fails")
+        self.wait(lambda: self.there("#drawing g.node.now"), "the picture")
+        before = self.width_of("#drawing svg")
+        for _ in range(4):
+            self.click("Larger picture")
+        self.assertAlmostEqual(self.width_of("#drawing svg") / before, 1.25**4, delta=0.05)
+        box = "const one = document.getElementById('drawing'); return "
+        wide, high, left = self.driver.execute_script(
+            box + "[one.scrollWidth - one.clientWidth, one.scrollHeight - one.clientHeight, one.scrollLeft]")
+        self.assertEqual((wide > 100, high, left), (True, 0, 0))
+        svg = self.there("#drawing svg")[0]
+        self.hands().move_to_element_with_offset(svg, -100, 0).click_and_hold().move_by_offset(-60, 0).release().perform()
+        self.assertEqual(self.driver.execute_script(box + "one.scrollLeft"), 60)
+        self.click("Whole")
+        self.assertAlmostEqual(self.width_of("#drawing svg"), before, delta=1)
+
+    def test_text_is_saved_and_not_over_another_ones(self) -> None:
+        self.open("mine.cc")
+        self.write("% Changed.\n" + page.LAMP)
+        self.click("Save")
+        self.sees("#saved", "saved")
+        path = pathlib.Path(self.made.name) / "mine.cc"
+        self.assertEqual(path.read_text(), "% Changed.\n" + page.LAMP)
+        path.write_text(page.LAMP)
+        self.write("% Changed once more.\n" + page.LAMP)
+        self.click("Save")
+        self.sees("#saved", "mine.cc was changed by another program")
+        self.assertEqual(path.read_text(), page.LAMP)
+        self.says("/save")
+
+    def test_queries_and_laws_of_an_included_file(self) -> None:
+        self.open("asked.cc")
+        self.sees("#queries", "1 Ask Certain? Judge its log laws.cc, line 5")
+        self.click("Ask: 1")
+        self.sees("#verdict", "complete")
+        self.there("#history .value[data-constant=on]")[0].click()
+        self.sees("#cause", "1: on=true is caused by laws.cc, line 3 flip causes on if -on.")
+        self.click("laws.cc, line 3")
+        self.wait(lambda: self.driver.title == "laws.cc - CCalc", "the file of the law")
+
+    def test_parts_that_are_not_there(self) -> None:
+        which = shutil.which
+        with contextlib.ExitStack() as without:
+            for name in ("page.parts.CODEMIRROR", "page.parts.D3"):
+                without.enter_context(mock.patch(name, pathlib.Path("/nowhere")))
+            without.enter_context(mock.patch.dict("page.server.PACKAGED", clear=True))
+            without.enter_context(mock.patch("shutil.which", lambda name: None if name == "dot" else which(name)))
+            self.open("lamp.cc")
+            for package in ("libjs-codemirror", "libjs-d3", "graphviz"):
+                self.sees("#missing", f"install it by: apt-get install {package}")
+            self.sees("#problems", "Nothing is refused.")
+            text = self.there("#plain")[0]
+            self.assertEqual(text.get_attribute("value"), page.LAMP)
+            text.clear()
+            text.send_keys(page.SLIP)
+            self.sees("#problems", "line 3 5 UnknownName")
+            text.clear()
+            text.send_keys(page.LAMP)
+            self.sees("#problems", "Nothing is refused.")
+            self.click("Ask: 1")
+            self.sees("#history", "0 nothing is true Step on does flip 1 on Step on")
+            self.sees("#drawing", "pictures need Graphviz: apt-get install graphviz")
+            self.there("#history .value[data-constant=on]")[0].click()
+            self.sees("#cause", "1: on=true is caused by line 3 flip causes on if -on.")
+        self.says("/packaged/")
 
     def test_histories_next_all_and_by_key(self) -> None:
         self.open("toss.cc")
@@ -230,7 +424,11 @@ class Lesson(unittest.TestCase):
         self.click("Next")
         self.sees("#history caption", "History 2, 1 step.")
         self.click("All", "#walker")
-        self.assertEqual(len(self.there("#list li")), 6)
+        listed = [("nothing is true", "nothing", "nothing is true"), ("nothing is true", "toss", "nothing is true"),
+                  ("nothing is true", "toss", "heads"), ("heads", "nothing", "heads"), ("heads", "toss", "nothing is true"),
+                  ("heads", "toss", "heads")]
+        words = [f"{number}: " + " \u2192 ".join(one) for number, one in enumerate(listed, 1)]
+        self.assertEqual([one.text for one in self.there("#list li")], words)
         self.there("#list li button")[4].click()
         self.sees("#history caption", "History 5")
         key = self.there("#key")[0]
@@ -267,88 +465,246 @@ class Lesson(unittest.TestCase):
         self.assertEqual(len(self.there(".CodeMirror-linebackground.law")), 1)
         self.sees("#history", "Without condition 1, 1 step.")
 
-    def test_keyboard_alone(self) -> None:
-        self.open("lamp.cc")
-        self.sees("#problems", "Nothing is refused.")
-        self.driver.execute_script("document.querySelector('.CodeMirror').CodeMirror.focus()")
-        focus = self.driver.switch_to.active_element
-        focus.send_keys(Keys.TAB)
-        self.assertEqual(self.driver.switch_to.active_element.text, "Ask")
-        self.driver.switch_to.active_element.send_keys(Keys.ENTER)
-        self.sees("#verdict", "complete")
-        seen = []
-        for _ in range(40):
-            self.driver.switch_to.active_element.send_keys(Keys.TAB)
-            seen.append(self.driver.switch_to.active_element.text or self.driver.switch_to.active_element.get_attribute("id"))
-            if seen[-1] == "flip":
-                break
-        self.assertEqual(seen[-1], "flip", seen)
-        self.driver.switch_to.active_element.send_keys(Keys.ENTER)
-        self.sees("#cause", "0: flip=true is caused by line 2")
-
-    def test_twice_the_letter_size(self) -> None:
-        self.open("lights.cc")
-        self.click("Ask: safe")
-        self.sees("#verdict", "claim fails")
-        before = self.driver.execute_script("return parseFloat(getComputedStyle(document.body).fontSize)")
-        for _ in range(6):
-            self.click("Larger letters")
-        after = self.driver.execute_script("return parseFloat(getComputedStyle(document.body).fontSize)")
-        wide = self.driver.execute_script("return document.documentElement.scrollWidth - document.documentElement.clientWidth")
-        for _ in range(6):
-            self.click("Smaller letters")
-        self.assertEqual((after / before, wide), (2, 0))
-
-    def test_print_leaves_the_controls_out(self) -> None:
-        self.open("lamp.cc")
-        self.click("Ask: 1")
-        self.sees("#verdict", "complete")
-        self.driver.execute_cdp_cmd("Emulation.setEmulatedMedia", {"media": "print"})
-        self.driver.execute_script("window.dispatchEvent(new Event('beforeprint'))")
-        try:
-            shown = self.driver.execute_script("return ['header', '#printed', '#history table', '#walker', '#editor'].map((one) => document.querySelector(one).checkVisibility())")
-            self.assertEqual(shown, [False, True, True, False, False])
-            self.assertIn("flip causes on if -on.", self.text("#printed"))
-        finally:
-            self.driver.execute_cdp_cmd("Emulation.setEmulatedMedia", {"media": ""})
-
     def test_odd_names_are_texts(self) -> None:
         self.open("<b onclick=x>.cc")
         self.sees("#problems", "Nothing is refused.")
         self.assertEqual(self.there("#file b, option b"), [])
 
-    def test_run_that_never_ends_is_stopped(self) -> None:
+
+class Seen(Browser):
+    """By keyboard alone, with large letters, in a narrow window, and on paper."""
+
+    def test_keyboard_alone(self) -> None:
+        self.visit()
+        self.reach("To the answer")
+        self.reach("file")
+        self.press("lights.cc")
+        self.wait(lambda: self.driver.title == "lights.cc - CCalc" and self.there("#queries .strong"), "the other description")
+        for words in ("Save", "Smaller letters", "Larger letters", "Print", "the text", "Ask: safe"):
+            self.reach(words)
+        self.press(Keys.ENTER)
+        self.sees("#verdict", "claim fails")
+        self.wait(lambda: self.there("#drawing g.node.now"), "the picture")
+        self.reach("Judge its log: safe")
+        self.reach("number")
+        for words in ("key", "Find", "Step on", "turn(north), why?"):
+            self.reach(words)
+        self.press(Keys.ENTER)
+        self.sees("#cause", "0: turn(north)=true is caused by line 5")
+        self.reach("green(east), changed, why?")
+        self.press(Keys.SPACE)
+        self.sees("#cause", "1: green(east)=true is caused by line 6 turn(L) causes green(L) if -green(L).")
+        self.reach("Show false and none too")
+        self.press(Keys.ENTER)
+        self.wait(lambda: "Fold false and none away" in self.driver.execute_script(FOCUSED)[0], "the button has the focus still")
+        for words in ("line 6", "Histories", "Transitions", "Larger picture", "Smaller picture", "Whole", "drawing", "All states"):
+            self.reach(words)
+        self.press(Keys.ENTER)
+        self.wait(lambda: "nothing is true" in self.driver.execute_script(FOCUSED)[0], "the first state has the focus")
+        self.press(Keys.ENTER)
+        self.wait(lambda: "nothing\u2192 nothing changes" in self.driver.execute_script(FOCUSED)[0], "the first choice has the focus")
+        self.press(Keys.TAB, Keys.ENTER)
+        self.sees("#walk", "1 step by hand")
+        self.wait(lambda: "choice" in self.driver.switch_to.active_element.get_attribute("class"), "a choice has the focus")
+        self.reach("Take the last step back", Keys.SHIFT + Keys.TAB)
+        self.reach("Draw what was seen")
+        self.press(Keys.ENTER)
+        self.wait(lambda: len(self.there("#drawing g.node")) > 2, "the transitions that were seen")
+
+    def test_keys_of_the_page(self) -> None:
+        self.open("mine.cc")
+        self.sees("#problems", "Nothing is refused.")
+        self.driver.execute_script("document.querySelector('.CodeMirror').CodeMirror.focus()")
+        self.press("% One more line.", Keys.ENTER)
+        self.sees("#saved", "not saved")
+        self.hands().key_down(Keys.CONTROL).send_keys("s").key_up(Keys.CONTROL).perform()
+        self.wait(lambda: self.text("#saved") == "saved", "saved by keys")
+        self.assertEqual((pathlib.Path(self.made.name) / "mine.cc").read_text(), "% One more line.\n" + page.LAMP)
+        self.hands().key_down(Keys.CONTROL).send_keys(Keys.ENTER).key_up(Keys.CONTROL).perform()
+        self.sees("#verdict", "complete, 1 listed")
         self.open("lamp.cc", self.strangely)
         self.write("% forever /dev/null\n:- query maxstep :: 0.\n")
         self.wait(lambda: self.there("#queries .strong"), "the query")
-        time.sleep(0.6)
         self.click("Ask: without a label")
+        self.sees("#progress", " s")
+        self.press(Keys.ESCAPE)
+        self.sees("#verdict", "stopped")
+
+    def test_what_can_have_the_focus_has_a_name(self) -> None:
+        self.ask("lights.cc", "safe", "claim fails")
+        self.click("Step on", "#history tbody")
+        self.sees("#choices", "What can be done at step 0")
+        nodes = self.driver.execute_cdp_cmd("Accessibility.getFullAXTree", {})["nodes"]
+        named = []
+        for node in nodes:
+            held = {one["name"]: one["value"].get("value") for one in node.get("properties", [])}
+            if held.get("focusable") and node["role"]["value"] != "RootWebArea":
+                named.append((node["role"]["value"], node.get("name", {}).get("value", "")))
+        self.assertGreater(len(named), 20)
+        self.assertEqual([one for one in named if not one[1].strip() and one[0] != "generic"], [])
+
+    def larger(self, times: int) -> None:
+        for _ in range(times):
+            self.click("Larger letters")
+
+    def smaller(self) -> None:
+        self.driver.execute_script("localStorage.clear()")
+
+    def test_twice_the_letter_size(self) -> None:
+        size = "return parseFloat(getComputedStyle(document.body).fontSize)"
+        try:
+            self.ask("lights.cc", "safe", "claim fails")
+            self.wait(lambda: self.there("#drawing g.node.now"), "the picture")
+            before, picture = self.driver.execute_script(size), self.width_of("#drawing svg")
+            self.larger(6)
+            self.assertEqual((self.driver.execute_script(size) / before, self.driver.execute_script(WIDER)), (2, 0))
+            self.assertAlmostEqual(self.width_of("#drawing svg") / picture, 2, delta=0.05)
+            self.click("Step on", "#history tbody")
+            self.sees("#choices", "What can be done at step 0")
+            self.assertEqual(self.driver.execute_script(WIDER), 0)
+            self.open("toss.cc")
+            self.click("Certain?: 1")
+            self.sees("#sure", "1 heads")
+            self.assertEqual((self.driver.execute_script(size) / before, self.driver.execute_script(WIDER)), (2, 0))
+            self.click("Ask: transitions")
+            self.sees("#of", "of 6")
+            self.click("All", "#walker")
+            self.assertEqual(self.driver.execute_script(WIDER), 0)
+        finally:
+            self.smaller()
+
+    def test_narrow_window(self) -> None:
+        """320 pixels, as the guidelines have it: nothing stands out to the right."""
+        self.ask("lights.cc", "safe", "claim fails")
+        self.wait(lambda: self.there("#drawing g.node.now"), "the picture")
+        self.click("Step on", "#history tbody")
+        self.sees("#choices", "What can be done at step 0")
+        measures = {"width": 320, "height": 800, "deviceScaleFactor": 1, "mobile": False}
+        self.driver.execute_cdp_cmd("Emulation.setDeviceMetricsOverride", measures)
+        try:
+            self.assertEqual(self.driver.execute_script("return window.innerWidth"), 320)
+            self.assertEqual(self.driver.execute_script(WIDER), 0)
+        finally:
+            self.driver.execute_cdp_cmd("Emulation.clearDeviceMetricsOverride", {})
+
+    def test_print_leaves_the_controls_out(self) -> None:
+        self.ask("lamp.cc", "1", "complete")
+        self.wait(lambda: self.there("#drawing g.node.now"), "the picture")
+        self.there("#history .value[data-constant=on]")[0].click()
+        self.sees("#cause", "1: on=true is caused by line 3")
+        self.click("Larger picture")
+        self.driver.execute_cdp_cmd("Emulation.setEmulatedMedia", {"media": "print"})
+        self.driver.execute_script("window.dispatchEvent(new Event('beforeprint'))")
+        try:
+            parts = ["header", "#printed", "#history table", "#walker", "#editor", "#drawing svg", "#history td.screen", "#stepping"]
+            shown = [self.there(part)[0].is_displayed() for part in parts]
+            self.assertEqual(shown, [False, True, True, False, False, True, False, False])
+            self.assertEqual(self.text("#history"), "History 1, 1 step. Step Values 0 nothing is true does flip 1 on")
+            self.assertEqual(self.text("#description-head"), "Text of lamp.cc")
+            self.assertIn("3 flip causes on if -on.", self.text("#printed"))
+            self.assertEqual(self.text("#cause"), "1: on=true is caused by line 3 flip causes on if -on.")
+            self.assertEqual(self.driver.execute_script(WIDER), 0)
+        finally:
+            self.driver.execute_cdp_cmd("Emulation.setEmulatedMedia", {"media": ""})
+        printed = base64.b64decode(self.driver.execute_cdp_cmd("Page.printToPDF", {})["data"])
+        self.assertEqual(printed.count(b"/Type /Page\n"), 1)
+
+
+class Heavy(Browser):
+    """Runs that take too much, and texts that are too long, leave the page usable."""
+
+    def begin(self, text: str) -> None:
+        self.open("lamp.cc", self.strangely)
+        self.write(text)
+        self.wait(lambda: self.there("#queries .strong"), "the query")
+        self.click("Ask: without a label")
+
+    def is_over(self) -> bool:
+        return bool(page.waits_for(lambda: not self.strangely.runner.under_way and not self.served.runner.under_way))
+
+    def test_run_that_never_ends_is_stopped(self) -> None:
+        self.begin("% forever /dev/null\n:- query maxstep :: 0.\n")
         self.sees("#progress", " s")
         self.click("Stop")
         self.sees("#verdict", "stopped")
-        self.assertTrue(page.waits_for(lambda: len(self.strangely.runner.under_way) <= 1))
+        self.assertTrue(self.is_over())
 
-    def test_hundred_thousand_histories_leave_the_page_usable(self) -> None:
-        self.open("lamp.cc", self.strangely)
-        self.write("% many\n:- query maxstep :: 1.\n")
-        self.wait(lambda: self.there("#queries .strong"), "the query")
-        self.click("Ask: without a label")
-        self.sees("#of", "of 100000")
+    def test_what_was_listed_so_far_is_kept(self) -> None:
+        self.begin("% trickles\n:- query maxstep :: 0.\n")
+        self.sees("#progress", "5 listed so far")
+        self.sees("#of", "of 5 so far")
+        self.sees("#history", "History 1, 0 steps.")
+        self.click("Next")
+        self.sees("#history", "0 at=2")
+        self.click("Stop")
+        self.sees("#verdict", "stopped, 5 listed so far")
         number = self.there("#number")[0]
         number.clear()
-        number.send_keys("99999", Keys.ENTER, Keys.TAB)
-        self.sees("#history", "at=99999")
+        number.send_keys("5", Keys.ENTER, Keys.TAB)
+        self.sees("#history", "0 at=5")
+        self.assertTrue(self.is_over())
+
+    def test_run_ends_with_its_page(self) -> None:
+        self.begin("% forever /dev/null\n:- query maxstep :: 0.\n")
+        self.sees("#progress", " s")
+        self.driver.get("about:blank")
+        self.assertTrue(self.is_over())
+
+    def test_search_that_takes_too_long(self) -> None:
+        self.has_program()
+        self.open("lamp.cc")
+        self.write(LONG)
+        self.sees("#problems", "Nothing is refused.")
+        self.click("Ask: sum")
+        self.sees("#progress", "2.")
+        self.click("Stop")
+        self.sees("#verdict", "stopped")
+        self.assertTrue(self.is_over())
+        self.write(page.LAMP)
+        self.sees("#queries", "line 5")
+        self.click("Ask: 1")
+        self.sees("#verdict", "complete, 1 listed")
+
+    def many(self, count: int) -> None:
+        number = self.there("#number")[0]
+        number.clear()
+        number.send_keys(str(count), Keys.ENTER, Keys.TAB)
+        self.sees("#history caption", f"History {count}, ")
         self.click("All", "#walker")
         self.assertEqual(len(self.there("#list li")), 100)
+        self.click("Page after")
+        self.sees("#list li:first-child", "101: ")
 
-    def test_large_text_leaves_the_page_usable(self) -> None:
+    def test_hundred_thousand_histories(self) -> None:
+        self.begin("% many\n:- query maxstep :: 1.\n")
+        self.wait(lambda: self.text("#of") == "of 100000", "all of them")
+        self.many(99999)
+        self.sees("#history", "at=99999")
+
+    def test_hundred_thousand_histories_of_the_program(self) -> None:
+        """All states of seventeen switches, 131,072."""
+        self.has_program()
+        self.open("lamp.cc")
+        self.write(MANY)
+        self.click("Ask: all")
+        self.wait(lambda: self.text("#of") == "of 100", "the first ones")
+        self.click("All", "#walker")
+        self.wait(lambda: self.text("#of") == "of 131072", "all of them")
+        self.sees("#verdict", "complete, 131072 listed")
+        self.many(131072)
+        self.sees("#history", "0 " + " ".join(f"p{number}" for number in range(17)))
+
+    def test_large_text(self) -> None:
         self.open("large.cc")
         self.sees("#problems", "14 Limit file bytes 1048576")
         begin = time.monotonic()
-        self.driver.execute_script("document.querySelector('.CodeMirror').CodeMirror.replaceRange('x', {line: 0, ch: 0})")
+        self.driver.execute_script("document.querySelector('.CodeMirror').CodeMirror.focus()")
+        self.press("% x", Keys.ENTER)
         self.sees("#saved", "not saved")
         self.assertLess(time.monotonic() - begin, 10)
+        self.write(page.LAMP)
+        self.sees("#problems", "Nothing is refused.")
 
 
 def cases() -> List[Any]:
-    return [Lesson]
+    return [Lesson, Seen, Heavy]

@@ -70,14 +70,15 @@ def event_of(line: str) -> Event:
 
 def refusal_in(errors: Iterable[str]) -> Optional[Event]:
     """The refusal, or the fault, on standard error."""
-    for line in errors:
+    lines = list(errors)
+    for line in lines:
         match = REFUSAL.fullmatch(line)
         if match:
             return {
                 "text": line, "file": match.group(1), "line": int(match.group(2)) if match.group(2) else None, "column": None,
                 "number": int(match.group(3)), "name": match.group(4) + match.group(5), "words": [], "is_warning": False,
             }
-    for line in errors:
+    for line in lines:
         if line.startswith("ccalc: "):
             return {
                 "text": line, "file": None, "line": None, "column": None, "number": None, "name": line[len("ccalc: "):], "words": [],

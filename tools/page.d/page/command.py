@@ -63,7 +63,7 @@ def main(words: Optional[List[str]] = None) -> int:
     path = found_program(given.program)
     if path is None:
         where = given.program or f"{BUILT}, and ccalc on the PATH"
-        return fail(f"the calculator is not there ({where}); build it by ./ccalc --mode list examples/lamp.cc, or name it by --program", NOT_THERE)
+        return fail(f"the calculator is not there ({where}); build it by ./ccalc examples/lamp.cc, or name it by --program", NOT_THERE)
     return serve(given, path)
 
 

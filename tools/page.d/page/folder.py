@@ -7,7 +7,7 @@ import stat
 import tempfile
 from typing import Iterator, List, Optional, Set
 
-from page.texts import CONTROL, included
+from page.texts import CONTROL, included, includes
 
 ENDINGS = (".cc", ".ccalc")
 MOST_FILES = 2000
@@ -127,6 +127,24 @@ class Folder:
             inner = self.read(path, name)[0].decode("utf-8", "replace")
             yield name, inner
             left += included(inner)
+
+
+    def lacking(self, name: str, text: str) -> Optional["tuple[str, int, str]"]:
+        """Of the files that a text includes, and those that these include, the first that cannot be read: the file and the line of the
+        include, and its name."""
+        seen: Set[str] = set()
+        left = [(name, line, inner) for line, inner in includes(text)]
+        while left:
+            outer, line, inner = left.pop(0)
+            if inner in seen:
+                continue
+            seen.add(inner)
+            try:
+                found = self.read(self.place(inner, endings=False), inner)[0].decode("utf-8", "replace")
+            except Refused:
+                return outer, line, inner
+            left[:0] = [(inner, at, deeper) for at, deeper in includes(found)]
+        return None
 
 
 def has_surrogate(name: str) -> bool:

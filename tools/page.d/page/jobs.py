@@ -20,6 +20,7 @@ from page.texts import law_at, queries, step_query
 
 MOST_DRAWN = 300  # histories in one picture
 MOST_STEPS = 1000  # histories of one step that are listed
+MOST_QUERIES = 40  # queries whose steps are looked at while one writes
 ENDED = {
     "time": "the time limit ended the run", "memory": "the memory limit ended the run", "output": "the output limit ended the run",
 }
@@ -73,12 +74,16 @@ class Desk:
                         yield b"".join(lines)
                         lines = []
         except Refused as refused:
-            yield line_of({"kind": "end", "code": None, "reason": "refused", "text": str(refused), "refusal": None})
+            yield line_of(no_run("refused", str(refused)))
         except OSError as error:
-            yield line_of({"kind": "end", "code": None, "reason": "refused", "text": f"the run could not begin: {error.strerror}", "refusal": None})
+            yield line_of(no_run("refused", f"the run could not begin: {error.strerror}"))
         except Busy:
-            text = f"{self.runner.limits.at_a_time} runs are under way; stop one of them, or wait"
-            yield line_of({"kind": "end", "code": None, "reason": "busy", "text": text, "refusal": None})
+            yield line_of(no_run("busy", f"{self.runner.limits.at_a_time} runs are under way; stop one of them, or wait"))
+
+
+def no_run(reason: str, text: str) -> Event:
+    """The end of what did not run."""
+    return {"kind": "end", "code": None, "reason": reason, "text": text, "refusal": None}
 
 
 def line_of(event: Event) -> bytes:
@@ -129,7 +134,7 @@ class Work:
         """The last event: how the run ended, with its refusal where there is one."""
         ending = self.ending
         if ending is None:
-            return {"kind": "end", "code": None, "reason": "ended", "text": "", "refusal": None}
+            return no_run("ended", "")
         refusal = refusal_in(map(self.named, ending.errors)) if ending.reason == "ended" else None
         if refusal:
             self.explain(refusal)
@@ -137,7 +142,12 @@ class Work:
         return {"kind": "end", "code": ending.code, "reason": ending.reason, "text": text, "refusal": refusal}
 
     def explain(self, refusal: Event) -> None:
-        """Gives a refusal the words of docs/messages.md, and the last line of its statement."""
+        """Gives a refusal the words of docs/messages.md, and the last line of its statement; a fault of reading its place, too."""
+        lacking = self.desk.folder.lacking(self.task.name, self.task.text) if refusal["name"] == "read fault" else None
+        if lacking and not refusal["words"]:
+            refusal["file"], refusal["line"], name = lacking
+            root = self.desk.folder.root
+            refusal["words"] = [f"`{name}` is not there, or cannot be read. Included files are named from the page's folder, `{root}`."]
         number, line = refusal["number"], refusal["line"]
         if not refusal["words"] and isinstance(number, int) and number in self.desk.hints:
             refusal["words"] = [self.desk.hints[number]]
@@ -159,9 +169,7 @@ def check(work: Work) -> Iterator[Event]:
     """What is wrong in the text, and which queries it has, with those of the files that it includes."""
     found: List[Event] = []
     has_explain = work.desk.program.modes()["explain"]
-    asked = [{"label": query.label, "line": query.line, "claim": query.claim, "file": None} for query in queries(work.task.text)]
-    for name, text in work.desk.folder.included_texts(work.task.text):
-        asked += [{"label": query.label, "line": query.line, "claim": query.claim, "file": name} for query in queries(text)]
+    asked = asked_in(work)
     lines: List[str] = []
     if has_explain:
         yield from work.all_lines(["--mode", "explain"], lines)
@@ -172,13 +180,39 @@ def check(work: Work) -> Iterator[Event]:
         yield from work.all_lines(["--query", fresh_label()], lines)
     end = work.end()
     refusal = end["refusal"]
-    if not has_explain and isinstance(refusal, dict) and refusal["number"] != 15:
+    if not has_explain and isinstance(refusal, dict) and refusal["number"] == 15:
+        yield from check_queries(work, asked, found)
+    elif not has_explain and isinstance(refusal, dict):
         found = [refusal]
     if has_explain and work.ending is not None and work.ending.code == 0:
         labels = {match.group(1) for match in map(LABELLED.fullmatch, lines) if match}
         asked = [query for query in asked if query["label"] in labels]
     yield {"kind": "checked", "problems": found, "queries": asked, "explain": has_explain}
     yield dict(end, refusal=None, text="" if end["reason"] == "ended" else end["text"])
+
+
+def asked_in(work: Work) -> List[Event]:
+    """The queries of the text, and of the files that it includes."""
+    texts = [(None, work.task.text), *work.desk.folder.included_texts(work.task.text)]
+    return [
+        {"label": query.label, "line": query.line, "claim": query.claim, "file": name} for name, text in texts for query in queries(text)
+    ]
+
+
+def check_queries(work: Work, asked: List[Event], found: List[Event]) -> Iterator[Event]:
+    """What is wrong with the steps of each query that can be asked: check mode is asked of it, which searches nothing, over a log that is
+    none."""
+    log = work.made / "none"
+    log.write_text("none\n")
+    for query in [query for place, query in enumerate(asked) if place == 0 or query["label"] is not None][:MOST_QUERIES]:
+        words = [] if query["label"] is None else ["--query", str(query["label"])]
+        yield from work.all_lines(["--mode", "check", *words, "--log", str(log)], [])
+        refusal = work.end()["refusal"]
+        if isinstance(refusal, dict):
+            if refusal["line"] is None:
+                refusal["file"], refusal["line"] = query["file"] or work.task.name, query["line"]
+                work.explain(refusal)
+            found.append(refusal)
 
 
 def fresh_label() -> str:

@@ -14,7 +14,7 @@ def missing() -> List[Dict[str, str]]:
     if not (CODEMIRROR / "lib/codemirror.js").is_file():
         found.append({"part": "codemirror", "without": "the text has no highlighting", "install": "apt-get install libjs-codemirror"})
     if not (D3 / "d3.min.js").is_file():
-        found.append({"part": "d3", "without": "pictures cannot be moved by the mouse", "install": "apt-get install libjs-d3"})
+        found.append({"part": "d3", "without": "pictures cannot be dragged by the mouse", "install": "apt-get install libjs-d3"})
     if shutil.which("dot") is None:
         found.append({"part": "dot", "without": "there are no pictures", "install": "apt-get install graphviz"})
     return found

@@ -66,8 +66,14 @@ def queries(text: str) -> List[Query]:
     return [query for query in map(query_of, statements(text)) if query]
 
 
+def includes(text: str) -> List[Tuple[int, str]]:
+    """The files that a text includes, each with the line of the statement that does so."""
+    found = [(statement.first, INCLUDE.match(statement.body)) for statement in statements(text)]
+    return [(line, match.group(1)) for line, match in found if match]
+
+
 def included(text: str) -> List[str]:
-    return [match.group(1) for match in (INCLUDE.match(statement.body) for statement in statements(text)) if match]
+    return [name for _, name in includes(text)]
 
 
 def law_at(text: str, line: int) -> Tuple[int, str]:

@@ -249,6 +249,7 @@ async function askSure(query) {
 
 async function askWhyNot(query) {
   const answer = newAnswer(query, "whynot");
+  $("answer").focus(); // the button that asked is gone
   const job = { kind: "whynot", name: answer.name, text: answer.text };
   if (query.label !== null) job.label = query.label;
   const end = await ask(job, (events) => take(answer, events));
@@ -325,19 +326,22 @@ async function showHistory(index) {
   await showRows(answer, history, asTitle(history, index));
 }
 
-async function showRows(answer, history, title) {
+// Shows the rows of a history as a table; the focus goes to the button that folds and unfolds where that was used.
+async function showRows(answer, history, title, focus) {
   const full = answer.all ? rowsOf(await causesOf(answer.text, answer.name, history.key)) : null;
   if (state.answer !== answer) return;
   const words = full ? "Fold false and none away" : "Show false and none too";
-  const toggle = make("button", { type: "button", onclick: () => { answer.all = !answer.all; showRows(answer, history, title); } }, words);
+  const toggle = make("button", { type: "button", onclick: () => { answer.all = !answer.all; showRows(answer, history, title, true); } }, words);
   const table = historyTable(history.rows, {
-    caption: `${title}, ${history.horizon} ${history.horizon === 1 ? "step" : "steps"}. A click on a value asks why.`,
+    caption: `${title}, ${history.horizon} ${history.horizon === 1 ? "step" : "steps"}.`,
+    hint: " A click on a value asks why.",
     all: full && full.length ? full : null,
     fails: failsAt(answer, history),
     onValue: (step, constant, value, button) => why(answer.text, answer.name, history.key, step, constant, button),
     onStep: (step) => stepping.begin(answer.name, answer.text, history.key, step, history.rows[2 * step]),
   });
   $("history").replaceChildren(table, make("p", { class: "bar" }, toggle));
+  if (focus) toggle.focus();
   picture.markStates(history.rows);
 }
 
@@ -358,19 +362,39 @@ async function allHistories() {
   }
 }
 
-// The list of all histories, a page at a time.
-function showList(from) {
+// The list of all histories, a page at a time; the focus goes to its first one where a page was turned.
+function showList(from, isTurned) {
   const { answer } = state;
-  const items = answer.histories.slice(from, from + PAGE).map((history, at) => {
-    const actions = history.rows.filter((row, index) => index % 2).map((row) => row.filter((part) => !part.endsWith("=none")).join(" ") || "nothing");
-    const words = actions.length ? actions.join("; ") : history.rows[0].join(" ") || "nothing is true";
-    return make("li", {}, make("button", { type: "button", onclick: () => showHistory(from + at) }, `${from + at + 1}: ${words}`));
-  });
+  const words = wordsOf(answer.histories.slice(from, from + PAGE).map((history) => history.rows));
+  const items = words.map((text, at) =>
+    make("li", {}, make("button", { type: "button", onclick: () => showHistory(from + at) }, `${from + at + 1}: ${text}`)));
   const bar = make("p", { class: "bar" });
-  if (from > 0) bar.append(make("button", { type: "button", onclick: () => showList(Math.max(0, from - PAGE)) }, "Page before"));
-  if (from + PAGE < answer.histories.length) bar.append(make("button", { type: "button", onclick: () => showList(from + PAGE) }, "Page after"));
-  bar.append(make("button", { type: "button", onclick: () => $("list").replaceChildren() }, "Close the list"));
+  if (from > 0) bar.append(make("button", { type: "button", onclick: () => showList(Math.max(0, from - PAGE), true) }, "Page before"));
+  if (from + PAGE < answer.histories.length) bar.append(make("button", { type: "button", onclick: () => showList(from + PAGE, true) }, "Page after"));
+  bar.append(make("button", { type: "button", onclick: closeList }, "Close the list"));
   $("list").replaceChildren(make("ol", { "aria-label": "All histories" }, ...items), bar);
+  if (isTurned && items.length) items[0].firstChild.focus();
+}
+
+// Of each of these histories the actions, between what is otherwise in its first state than in those of others, and so in its last one.
+function wordsOf(histories) {
+  const differing = (rows) => {
+    const seen = new Map();
+    for (const part of rows.flat()) seen.set(part, (seen.get(part) || 0) + 1);
+    const some = new Set([...seen].filter(([, count]) => count < rows.length).map(([part]) => part));
+    return rows.map((row) => (some.size ? [row.filter((part) => some.has(part)).join(" ") || "nothing is true"] : []));
+  };
+  const firsts = differing(histories.map((rows) => rows[0]));
+  const lasts = differing(histories.map((rows) => rows[rows.length - 1]));
+  return histories.map((rows, at) => {
+    const actions = rows.filter((row, index) => index % 2).map((row) => row.filter((part) => !part.endsWith("=none")).join(" ") || "nothing");
+    return actions.length ? [...firsts[at], actions.join("; "), ...lasts[at]].join(" \u2192 ") : rows[0].join(" ") || "nothing is true";
+  });
+}
+
+function closeList() {
+  $("list").replaceChildren();
+  $("number").focus();
 }
 
 async function findKey() {
@@ -464,6 +488,14 @@ function letters(change) {
   editor.fresh();
 }
 
+// The text for the printer, with the numbers of its lines.
+function setPrinted() {
+  const lines = editor.get().slice(0, 300000).replace(/\n$/, "").split("\n");
+  const width = String(lines.length).length;
+  $("printed").textContent = lines.map((line, index) => `${String(index + 1).padStart(width)}  ${line}`).join("\n");
+  $("printed-name").textContent = `of ${state.name}`;
+}
+
 function onKey(event) {
   if (event.key === "Escape") stop();
   if (!(event.ctrlKey || event.metaKey)) return;
@@ -492,7 +524,7 @@ async function begin() {
   $("number").addEventListener("change", () => showHistory(Number($("number").value) - 1));
   $("key").addEventListener("keydown", (event) => { if (event.key === "Enter" && !event.ctrlKey) findKey(); });
   document.addEventListener("keydown", onKey);
-  window.addEventListener("beforeprint", () => { $("printed").textContent = editor.get().slice(0, 300000); });
+  window.addEventListener("beforeprint", setPrinted);
   window.addEventListener("beforeunload", (event) => { if (editor.get() !== state.saved) event.preventDefault(); });
   letters(0);
   const found = await server.about();

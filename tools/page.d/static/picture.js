@@ -1,23 +1,30 @@
-// The picture: what Graphviz drew, moved and scaled by d3 where it is there, else scaled by its width.
+// The picture: what Graphviz drew, as large as its letters are on the page, no wider than its box where it is shown whole, and dragged in
+// its box by d3 where that is there.
 import { make } from "./views.js";
 
 // `askRun(job, onEvents)` runs a job. Returns what draws histories, and what marks the states that are shown.
 export function makePicture(places, askRun) {
-  let zoom = null;
   let scale = 1;
+  let width = 0; // in the letters of the page
 
+  const resize = () => {
+    const svg = places.drawing.querySelector("svg");
+    if (svg) svg.style.width = `calc(min(${width}rem, 100%) * ${scale})`;
+  };
+
+  // Makes the picture larger or smaller by a factor; 0 shows it whole.
   const scaled = (factor) => {
     scale = factor === 0 ? 1 : Math.min(8, Math.max(0.2, scale * factor));
-    const svg = places.drawing.querySelector("svg");
-    if (!svg) return;
-    if (zoom) {
-      zoom.scale(scale);
-      if (factor === 0) zoom.translate([0, 0]);
-      zoom.event(window.d3.select(svg));
-    } else {
-      svg.style.maxWidth = "none";
-      svg.style.width = `${100 * scale}%`;
-    }
+    resize();
+  };
+
+  const drag = (svg) => {
+    const { d3 } = window;
+    if (!d3) return;
+    d3.select(svg).call(d3.behavior.drag().on("drag", () => {
+      places.drawing.scrollLeft -= d3.event.dx;
+      places.drawing.scrollTop -= d3.event.dy;
+    }));
   };
 
   const show = (text) => {
@@ -26,19 +33,9 @@ export function makePicture(places, askRun) {
     svg.setAttribute("role", "img");
     svg.setAttribute("aria-hidden", "true");
     places.drawing.replaceChildren(svg);
-    scale = 1;
-    zoom = null;
-    const { d3 } = window;
-    if (!d3) return;
-    const graph = svg.querySelector("g.graph");
-    const outer = document.createElementNS("http://www.w3.org/2000/svg", "g");
-    graph.replaceWith(outer);
-    outer.append(graph);
-    zoom = d3.behavior.zoom().scaleExtent([0.2, 8]).on("zoom", () => {
-      scale = d3.event.scale;
-      outer.setAttribute("transform", `translate(${d3.event.translate}) scale(${d3.event.scale})`);
-    });
-    d3.select(svg).call(zoom).on("dblclick.zoom", null).on("wheel.zoom", null);
+    width = svg.viewBox.baseVal.width / 12; // it counts points, and the page's letters have 12
+    scaled(0);
+    drag(svg);
   };
 
   // Draws histories, each a list of rows, as `histories` or as `transitions`.

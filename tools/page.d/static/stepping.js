@@ -16,7 +16,7 @@ export function makeStepping(places, askRun, onWhy, onSeen) {
 
   const show = () => {
     const table = historyTable(rowsOf(), {
-      caption: walk.frames.length > 1 ? `${walk.frames.length - 1} steps by hand` : "The first state",
+      caption: ["The first state", "1 step by hand"][walk.frames.length - 1] || `${walk.frames.length - 1} steps by hand`,
       onValue: (step, constant, value, button) => why(step, constant, value, button, Boolean(button.closest("tr.actions"))),
     });
     places.walk.replaceChildren(table);

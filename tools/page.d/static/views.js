@@ -58,13 +58,13 @@ function rowOf(head, values, step, options, attributes, empty) {
   const cell = buttons.length ? make("div", { class: "values" }, ...buttons) : make("span", { class: "none" }, empty);
   const failed = attributes.class === "fails" ? make("strong", { class: "failed" }, "The claim fails here.") : null;
   const step_on = options.onStep && !attributes.actions
-    ? make("td", { class: "narrow" }, make("button", { type: "button", class: "on", onclick: () => options.onStep(step) }, "Step on"))
+    ? make("td", { class: "narrow screen" }, make("button", { type: "button", onclick: () => options.onStep(step) }, "Step on"))
     : null;
   return make("tr", { class: attributes.class }, make("th", { scope: "row" }, head), make("td", options.onStep && attributes.actions ? { colspan: 2 } : {}, failed, cell), step_on);
 }
 
 // A history as a table: a row for each state, and between them one for what is done.
-// options: caption, all (the full rows, or null), fails (a step or null), onValue, onStep.
+// options: caption, hint (what a click does), all (the full rows, or null), fails (a step or null), onValue, onStep.
 export function historyTable(rows, options) {
   const shown = options.all || rows;
   const body = make("tbody");
@@ -78,7 +78,7 @@ export function historyTable(rows, options) {
     body.append(rowOf(head, values, step, options, { class: isAction ? "actions" : fails ? "fails" : "", actions: isAction }, isAction ? "nothing" : "nothing is true"));
   }
   const heads = make("tr", {}, make("th", { scope: "col" }, "Step"), make("th", { scope: "col", colspan: options.onStep ? 2 : null }, "Values"));
-  return make("div", { class: "scroll" }, make("table", {}, make("caption", {}, options.caption), make("thead", {}, heads), body));
+  return make("div", { class: "scroll" }, make("table", {}, make("caption", {}, options.caption, make("span", { class: "screen" }, options.hint)), make("thead", {}, heads), body));
 }
 
 // What sure mode says of each fluent and action.
