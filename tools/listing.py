@@ -4,6 +4,7 @@ from __future__ import annotations
 import argparse
 import dataclasses
 import fnmatch
+import os
 import pathlib
 import re
 import shutil
@@ -224,6 +225,12 @@ def read_and_note(tool: str, asked: argparse.Namespace) -> tuple[Listing, Chosen
     return found, chosen
 
 
+def check_place(place: str, read_from: Iterable[str | None]) -> None:
+    """Refuses a place where a file lies that is read."""
+    if os.path.exists(place) and any(name and os.path.exists(name) and os.path.samefile(name, place) for name in read_from):
+        raise Wrong(f"{place}: this file is read, and would be written over; name another one")
+
+
 class NoHistory(Exception):
     """A listing without a history, or without what is to be drawn."""
 
@@ -278,11 +285,14 @@ def add_picture_options(parser: argparse.ArgumentParser) -> None:
     parser.add_argument("--svg", metavar="FILE", help="draw a picture into FILE with Graphviz, in place of the graph's text")
 
 
-def drawn(tool: str, text: str, svg: str | None) -> int:
+def drawn(tool: str, text: str, asked: argparse.Namespace) -> int:
     """Prints the graph, or draws it; where Graphviz is not there its text is kept."""
+    svg: str | None = asked.svg
     if not svg:
         sys.stdout.write(text)
         return 0
+    for place in (svg, svg + ".dot"):
+        check_place(place, [asked.listing])
     if shutil.which("dot") is None:
         pathlib.Path(svg + ".dot").write_text(text)
         print(f"{tool}: `dot` is not there: apt-get install -y graphviz; the graph stands in {svg}.dot", file=sys.stderr)
