@@ -146,8 +146,22 @@ class Browser(unittest.TestCase):
     def click(self, words: str, within: str = "body") -> None:
         """Clicks the button with these words, or with this spoken name."""
         path = f".//button[normalize-space()='{words}' or @aria-label='{words}']"
-        found = lambda: self.there(within)[0].find_elements(By.XPATH, path)  # noqa: E731
-        self.wait(lambda: [one for one in found() if one.is_displayed() and one.is_enabled()], words)[0].click()
+
+        def done() -> bool:
+            for one in self.there(within)[0].find_elements(By.XPATH, path):
+                if one.is_displayed() and one.is_enabled():
+                    one.click()
+                    return True
+            return False
+
+        self.wait(done, words)  # once more where the button was made anew meanwhile
+
+    def tap(self, selector: str, place: int = 0) -> None:
+        def done() -> bool:
+            self.there(selector)[place].click()
+            return True
+
+        self.wait(done, selector)
 
     def visit(self, served: Optional[Any] = None) -> None:
         served = served or self.served
@@ -243,14 +257,14 @@ class Lesson(Browser):
         self.sees("#verdict", "horizon 1: complete, 1 listed")
         self.sees("#history", "0 nothing is true Step on does flip 1 on Step on")
         self.wait(lambda: len(self.there("#drawing g.node.now")) == 2, "the picture with both states")
-        self.there("#history .value[data-constant=on]")[0].click()
+        self.tap("#history .value[data-constant=on]")
         self.sees("#cause", "1: on=true is caused by line 3 flip causes on if -on.")
         self.assertEqual(len(self.there(".CodeMirror-linebackground.law")), 1)
         self.click("Show false and none too")
         self.sees("#history", "0 -on Step on does flip 1 on")
         self.click("Fold false and none away")
         self.wait(lambda: "-on" not in self.text("#history"), "false folded away")
-        self.there("#history .value[data-constant=on]")[0].click()
+        self.tap("#history .value[data-constant=on]")
         self.sees("#cause", "1: on=true is caused by line 3")
         self.picture("plan")
 
@@ -266,7 +280,7 @@ class Lesson(Browser):
             self.sees("#walk", "1 step by hand" if step == 0 else f"{step + 1} steps by hand")
         self.sees("#choices", "What can be done at step 3, and what comes of it: nothing → nothing changes flip → on is false")
         self.assertEqual(self.text("#walk tbody"), "0 nothing is true does flip 1 on does flip 2 -on does flip 3 on")
-        self.there("#walk .value.gone")[0].click()
+        self.tap("#walk .value.gone")
         self.sees("#cause", "2: on=false is caused by line 4 flip causes -on if on.")
         self.click("Draw what was seen")
         self.wait(lambda: len(self.there("#drawing g.edge")) == 4, "four transitions")
@@ -386,7 +400,7 @@ class Lesson(Browser):
         self.sees("#queries", "1 Ask Certain? Judge its log laws.cc, line 5")
         self.click("Ask: 1")
         self.sees("#verdict", "complete")
-        self.there("#history .value[data-constant=on]")[0].click()
+        self.tap("#history .value[data-constant=on]")
         self.sees("#cause", "1: on=true is caused by laws.cc, line 3 flip causes on if -on.")
         self.click("laws.cc, line 3")
         self.wait(lambda: self.driver.title == "laws.cc - CCalc", "the file of the law")
@@ -413,7 +427,7 @@ class Lesson(Browser):
             self.click("Ask: 1")
             self.sees("#history", "0 nothing is true Step on does flip 1 on Step on")
             self.sees("#drawing", "pictures need Graphviz: apt-get install graphviz")
-            self.there("#history .value[data-constant=on]")[0].click()
+            self.tap("#history .value[data-constant=on]")
             self.sees("#cause", "1: on=true is caused by line 3 flip causes on if -on.")
         self.says("/packaged/")
 
@@ -429,7 +443,7 @@ class Lesson(Browser):
                   ("heads", "toss", "heads")]
         words = [f"{number}: " + " \u2192 ".join(one) for number, one in enumerate(listed, 1)]
         self.assertEqual([one.text for one in self.there("#list li")], words)
-        self.there("#list li button")[4].click()
+        self.tap("#list li button", 4)
         self.sees("#history caption", "History 5")
         key = self.there("#key")[0]
         key.clear()
@@ -530,6 +544,14 @@ class Seen(Browser):
         self.press(Keys.ESCAPE)
         self.sees("#verdict", "stopped")
 
+    def test_focus_stays_where_queries_are_told_anew(self) -> None:
+        self.open("lamp.cc")
+        self.sees("#queries", "line 5")
+        self.driver.execute_script("document.querySelector('#queries .strong').focus()")
+        self.write(page.LAMP + ":- query label :: two; maxstep :: 0.\n")
+        self.sees("#queries", "two Ask")
+        self.assertIn("Ask: 1", self.driver.execute_script(FOCUSED)[0])
+
     def test_what_can_have_the_focus_has_a_name(self) -> None:
         self.ask("lights.cc", "safe", "claim fails")
         self.click("Step on", "#history tbody")
@@ -590,7 +612,7 @@ class Seen(Browser):
     def test_print_leaves_the_controls_out(self) -> None:
         self.ask("lamp.cc", "1", "complete")
         self.wait(lambda: self.there("#drawing g.node.now"), "the picture")
-        self.there("#history .value[data-constant=on]")[0].click()
+        self.tap("#history .value[data-constant=on]")
         self.sees("#cause", "1: on=true is caused by line 3")
         self.click("Larger picture")
         self.driver.execute_cdp_cmd("Emulation.setEmulatedMedia", {"media": "print"})

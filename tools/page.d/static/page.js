@@ -106,6 +106,14 @@ async function check() {
   showProblems(checked ? checked.problems : [], end.text);
 }
 
+// Puts elements into a place; what had the focus there has it again, by its spoken name or its words.
+function replaceIn(place, elements) {
+  const nameOf = (one) => one.getAttribute("aria-label") || one.textContent;
+  const name = place.contains(document.activeElement) ? nameOf(document.activeElement) : null;
+  place.replaceChildren(...elements);
+  if (name !== null) [...place.querySelectorAll("button")].find((one) => nameOf(one) === name)?.focus();
+}
+
 function showProblems(problems, text) {
   editor.clear("wrong");
   const shown = problems.map((problem) => {
@@ -119,7 +127,7 @@ function showProblems(problems, text) {
     return make("div", { class: problem.is_warning ? "problem warning" : "problem" }, button, " ", make("span", { class: "place" }, name), ...words);
   });
   if (text) shown.push(make("div", { class: "problem" }, text));
-  $("problems").replaceChildren(...(shown.length ? shown : [make("span", { class: "fine" }, "Nothing is refused.")]));
+  replaceIn($("problems"), shown.length ? shown : [make("span", { class: "fine" }, "Nothing is refused.")]);
 }
 
 async function openFile(name) {
@@ -128,6 +136,8 @@ async function openFile(name) {
     const found = await server.open(name);
     Object.assign(state, { name, changed: found.changed, ends: found.ends, saved: found.text, queries: [] });
     clearAnswer();
+    $("queries").replaceChildren(make("li", { class: "none" }, "looking .."));
+    $("problems").replaceChildren();
     editor.clear("law");
     editor.set(state.drafts.get(name) ?? found.text);
     state.drafts.delete(name);
@@ -166,7 +176,7 @@ function showQueries() {
     const where = query.file ? `${query.file}, line ${query.line}` : `line ${query.line}${query.claim ? ", a claim" : ""}`;
     return make("li", {}, make("span", { class: "name" }, name), ...buttons, make("span", { class: "none" }, where));
   });
-  $("queries").replaceChildren(...(items.length ? items : [make("li", { class: "none" }, "This text has no query.")]));
+  replaceIn($("queries"), items.length ? items : [make("li", { class: "none" }, "This text has no query.")]);
 }
 
 function clearAnswer() {
