@@ -3,10 +3,6 @@
 #![tactic(auto)]
 
 #[cfg(test)]
-mod calls;
-#[cfg(test)]
-mod engines;
-#[cfg(test)]
 mod make;
 #[cfg(test)]
 mod print;

@@ -1,8 +1,6 @@
 //! What books of cases do not show: laws, other desks, desks that fail, long files, many nodes, and calls on values that are made
 //! here. What is expected is taken from the description of the language.
 ghost use Rattle.std.specs.Prelude.{◌<◌, IfOk};
-ghost use Rattle.cc_describe.specs.declared.heads.Heads.TheVariants as heads;
-ghost use Rattle.cc_describe.specs.Describing.{AsksFormulas, HasForms, SaysAll};
 ghost use Rattle.cc_sorts.specs.Tables.{IsSignatureFor};
 
 use bumpalo::Bump;
@@ -21,7 +19,7 @@ use cc_tell::end_run;
 use std::alloc::Global;
 use std::test::Fail;
 
-pub(crate) const TWO_FLUENTS: &str = ":- constants p, q :: simpleFluent. :- query maxstep :: 0.";
+const TWO_FLUENTS: &str = ":- constants p, q :: simpleFluent. :- query maxstep :: 0.";
 
 const CLASH: &str = ":- constants p :: simpleFluent. caused p. caused -p. :- query maxstep :: 0.";
 
@@ -73,7 +71,7 @@ fn two_files(
     Ok(Files::of(files))
 }
 
-pub(crate) fn one_file(alloc: Global, text: &str) -> Result<Files, OutOfMemory> {
+fn one_file(alloc: Global, text: &str) -> Result<Files, OutOfMemory> {
     let mut files = Vec::new(alloc);
     files.push(padded(alloc, "f.cc", text, 0)?)?;
     Ok(Files::of(files))
@@ -363,11 +361,8 @@ fn bytes_have_their_limits(rt: HostRuntime) -> Result<(), Fail> {
 }
 
 /// The description of a text; none where there is none.
-pub(crate) fn described_text(alloc: Global, text: &str) -> Result<Described, DescribeStop>
-    ensures signature { IfOk result (λ described. IsSignatureFor described.table described.sig) }
-    ensures says { IfOk result (SaysAll heads.Definite) }
-    ensures forms { IfOk result HasForms }
-    ensures formulas { IfOk result AsksFormulas }
+fn described_text(alloc: Global, text: &str) -> Result<Described, DescribeStop>
+    ensures { IfOk result (λ described. IsSignatureFor described.table described.sig) }
 {
     let Ok(files) = one_file(alloc, text) else {
         return Err(DescribeStop::OutOfMemory);
