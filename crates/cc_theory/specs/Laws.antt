@@ -1,7 +1,7 @@
 -- What the completion and paths have to do with models (Clark, 1978; Giunchiglia, Lee, Lifschitz, McCain and Turner, 2004).
-use Rattle.std.specs.Prelude.{ℕ, List, ◌↔◌}
+use Rattle.std.specs.Prelude.{ℕ, ◌+◌, ◌*◌, ◌≤◌, List, take, drop, length, ◌↔◌}
 use Rattle.cc_defs.specs.Conditions.{AreGroundLaws}
-use Rattle.cc_defs.specs.Description.{Description, sizes_at}
+use Rattle.cc_defs.specs.Description.{Description, sizes_at, stride}
 use Rattle.cc_defs.specs.GroundLaws.{ground_laws}
 use Rattle.cc_defs.specs.Paths.{IsPath}
 use Rattle.cc_defs.specs.Rows.{IsRow}
@@ -25,3 +25,12 @@ ModelsMeetCompletion = (d : Description) → IsGroundedWell d → (horizon : ℕ
 abbrev pub ModelsArePaths : Type 0
 ModelsArePaths = (d : Description) → IsGroundedWell d → (horizon : ℕ) (row : List ℕ) →
     IsModel (sizes_at d horizon) (rules_at d horizon) row ↔ IsPath d horizon row
+
+-- the part of a row from a step on, over so many transitions
+abbrev pub part_of : Description → List ℕ → (start count : ℕ) → List ℕ
+part_of d row start count = take (count * stride d + length d.universe.fluents) (drop (start * stride d) row)
+
+-- Each run of consecutive states of a path, with the actions between them, is a path.
+abbrev pub PathsHaveParts : Type 0
+PathsHaveParts = (d : Description) → IsGroundedWell d → (horizon : ℕ) (row : List ℕ) → IsPath d horizon row →
+    (start count : ℕ) → start + count ≤ horizon → IsPath d count (part_of d row start count)

@@ -1,5 +1,5 @@
 //! Theorems on models, each the contract of a function that does nothing, or calls those that it rests on.
-ghost use Rattle.cc_theory.specs.Laws.{ModelsArePaths, ModelsMeetCompletion};
+ghost use Rattle.cc_theory.specs.Laws.{ModelsArePaths, ModelsMeetCompletion, PathsHaveParts};
 ghost use Rattle.cc_theory.specs.Theories.{LawsGiveRules};
 
 use cc_arena::one_formula;
@@ -23,6 +23,13 @@ pub fn models_are_paths()
     one_formula();
     heads_mean_heads();
     heads_there_are_ground();
+}
+
+/// Each run of consecutive states of a path, with the actions between them, is a path.
+pub fn paths_have_parts()
+    ensures { PathsHaveParts }
+{
+    models_are_paths();
 }
 
 /// The rules that are made from ground laws are rules of their horizon, and those of each description with these laws.

@@ -1,0 +1,4 @@
+//! Every horizon at once: what an induction over the last states of a path proves.
+#![tactic(auto)]
+
+pub mod theorems;

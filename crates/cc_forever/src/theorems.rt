@@ -1,0 +1,14 @@
+//! Theorems on every horizon, each the contract of a function that calls those that it rests on.
+ghost use Rattle.cc_forever.specs.Induction.{InductionHolds};
+
+use cc_arena::theorems::terms_mean_formulas;
+use cc_theory::theorems::paths_have_parts;
+
+/// Induction: where so many horizons from the least one on have no history, and no path of so many transitions whose earlier states
+/// are none that the query looks for ends in one that it does, then no horizon has a history.
+pub fn induction_holds()
+    ensures { InductionHolds }
+{
+    terms_mean_formulas();
+    paths_have_parts();
+}
