@@ -143,7 +143,7 @@ Reads count term = (v w : ℕ → ℕ) → ((constant : ℕ) → constant < coun
 
 module _ (sizes : List ℕ) (v w : ℕ → ℕ) (agree : (constant : ℕ) → constant < length sizes → v constant ≡ w constant) where
   mutual
-    reads : (term : Ground) → AllByRecursion (Fits sizes) (postfix term) → truth v term ≡ truth w term
+    pub reads : (term : Ground) → AllByRecursion (Fits sizes) (postfix term) → truth v term ≡ truth w term
     reads terms.Truth fits = refl
     reads terms.Falsehood fits = refl
     reads (terms.Atom constant value) fits = ap (λ (n : ℕ). n == value) (agree constant (slice_get_within sizes constant fits.0.0 fits.0.1))

@@ -1,3 +1,4 @@
+mod Agreeing
 mod Cases
 mod Giving
 mod Grouping
@@ -8,6 +9,7 @@ mod Local
 mod Made
 mod Members
 mod Origins
+mod Parts
 mod Places
 mod Pointwise
 mod Reading
@@ -16,4 +18,3 @@ mod Same
 mod Supported
 mod Meant
 mod WellGrounded
-mod Windows

@@ -1,11 +1,12 @@
 -- What the completion and paths have to do with models (Clark, 1978; Giunchiglia, Lee, Lifschitz, McCain and Turner, 2004).
-use Rattle.std.specs.Prelude.{ℕ, ◌+◌, ◌*◌, ◌≤◌, List, take, drop, length, ◌↔◌}
+use Rattle.std.specs.Prelude.{◌≡◌, ℕ, ◌+◌, ◌*◌, ◌<◌, ◌≤◌, List, take, drop, length, ◌↔◌}
 use Rattle.cc_defs.specs.Conditions.{AreGroundLaws}
 use Rattle.cc_defs.specs.Description.{Description, sizes_at, stride}
 use Rattle.cc_defs.specs.GroundLaws.{ground_laws}
 use Rattle.cc_defs.specs.Paths.{IsPath}
 use Rattle.cc_defs.specs.Rows.{IsRow}
 use Rattle.cc_defs.specs.Rules.{rules_at}
+use Rattle.cc_defs.specs.Terms.{Ground, IsTermOver, postfix, truth}
 use Rattle.cc_defs.specs.Theories.{IsModel}
 use Rattle.cc_defs.specs.TimedRules.{timed_rules}
 use Rattle.cc_defs.specs.Universe.{HaveOwnValues}
@@ -34,3 +35,8 @@ part_of d row start count = take (count * stride d + length d.universe.fluents) 
 abbrev pub PathsHaveParts : Type 0
 PathsHaveParts = (d : Description) → IsGroundedWell d → (horizon : ℕ) (row : List ℕ) → IsPath d horizon row →
     (start count : ℕ) → start + count ≤ horizon → IsPath d count (part_of d row start count)
+
+-- A term is worth the same under two valuations that agree on its constants.
+abbrev pub TermsRestOnTheirConstants : Type 0
+TermsRestOnTheirConstants = (sizes : List ℕ) (formula : Ground) → IsTermOver sizes (postfix formula) → (v w : ℕ → ℕ) →
+    ((constant : ℕ) → constant < length sizes → v constant ≡ w constant) → truth v formula ≡ truth w formula

@@ -1,5 +1,5 @@
 //! Theorems on models, each the contract of a function that does nothing, or calls those that it rests on.
-ghost use Rattle.cc_theory.specs.Laws.{ModelsArePaths, ModelsMeetCompletion, PathsHaveParts};
+ghost use Rattle.cc_theory.specs.Laws.{ModelsArePaths, ModelsMeetCompletion, PathsHaveParts, TermsRestOnTheirConstants};
 ghost use Rattle.cc_theory.specs.Theories.{LawsGiveRules};
 
 use cc_arena::one_formula;
@@ -29,8 +29,16 @@ pub fn models_are_paths()
 pub fn paths_have_parts()
     ensures { PathsHaveParts }
 {
-    models_are_paths();
+    terms_mean_formulas();
+    one_formula();
+    heads_mean_heads();
+    heads_there_are_ground();
 }
+
+/// A term is worth the same under two valuations that agree on its constants.
+pub fn terms_rest_on_their_constants()
+    ensures { TermsRestOnTheirConstants }
+{}
 
 /// The rules that are made from ground laws are rules of their horizon, and those of each description with these laws.
 pub fn laws_give_rules()
