@@ -16,7 +16,8 @@ use Rattle.cc_cdcl.specs.LeastRows.{row_of}
 use Rattle.cc_cdcl.specs.Laws.{LeastRowIsFound, ChoicesAreKept}
 use Rattle.cc_cdcl.specs.Sets.{assignment_of}
 use Rattle.cc_cdcl.proofs.Closed.{full_met}
-use Rattle.cc_cdcl.proofs.Denials.{eqb_itself, given_true}
+use Rattle.cc_clauses.proofs.Denials.{eqb_itself}
+use Rattle.cc_cdcl.proofs.Denials.{given_true}
 use Rattle.cc_cdcl.proofs.Exactly.{has_row}
 use Rattle.cc_cdcl.proofs.Picking.{in_more, same_or}
 

@@ -10,7 +10,7 @@ use Rattle.cc_trail.specs.Steps.{AreApart, AreSteps, steps_to, values_of, values
 use Rattle.cc_trail.specs.Trails.{KeepsSettled}
 use Rattle.cc_cdcl.specs.Analysis.{HasOneOf, IsFinal, IsUnfinished, first_level, is_level, level_count_in, level_of, level_or_zero, second_level}
 use Rattle.cc_cdcl.proofs.Counts.{at_level, head_before, none_of, not_before_itself, rest_is, two_of, up_to_last}
-use Rattle.cc_cdcl.proofs.Denials.{eqb_itself}
+use Rattle.cc_clauses.proofs.Denials.{eqb_itself}
 use Rattle.cc_cdcl.proofs.Learning.{one_level}
 use Rattle.cc_cdcl.proofs.Levels.{none_back}
 use Rattle.cc_cdcl.proofs.Picking.{in_more}

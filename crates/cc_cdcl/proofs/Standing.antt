@@ -32,7 +32,8 @@ use Rattle.cc_cdcl.specs.Sets.{IsFull, assignment_of}
 use Rattle.cc_cdcl.specs.SolverParts.{IsOfTrail, IsRunning, IsSolver, Stands, standing_of, view_of}
 use Rattle.cc_cdcl.specs.Solvers.{AddsDerived, Failed, Found, IsStuck, Ready, Refuted, SolverView, Standing}
 use Rattle.cc_cdcl.proofs.Closed.{full_met}
-use Rattle.cc_cdcl.proofs.Denials.{denial_failed, denial_is_clause, denial_over}
+use Rattle.cc_clauses.proofs.Denials.{denial_is_clause, denial_over}
+use Rattle.cc_cdcl.proofs.Denials.{denial_failed}
 use Rattle.cc_cdcl.proofs.Deriving.{clauses_added, contains_numbered}
 use Rattle.cc_cdcl.proofs.Descending.{chosen_more, opens_more}
 use Rattle.cc_cdcl.proofs.Exactly.{has_row}

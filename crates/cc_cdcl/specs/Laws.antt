@@ -1,12 +1,10 @@
 -- What closed assignments give, how many lines a search can derive, and by which choices the least row is found.
-use Rattle.std.specs.Prelude.{◌≡◌, ◌≢◌, ℕ, ◌<◌, ◌^◌, ◌⊎◌, Bool, true, false, List, [], ◌∷◌, ◌++◌, None, Contains, IsTrue}
+use Rattle.std.specs.Prelude.{◌≡◌, ◌≢◌, ℕ, ◌<◌, ◌^◌, ◌⊎◌, List, [], ◌∷◌, ◌++◌, None, Contains, IsTrue}
 use Rattle.std.specs.List.{AllByRecursion}
-use Rattle.cc_clauses.specs.RowsOf.{HasRow, IsLeastRowOf}
+use Rattle.cc_clauses.specs.RowsOf.{IsLeastRowOf}
 use Rattle.cc_defs.specs.Assignments.{Values, IsClosed, IsFailed, IsEarned, HasOpen}
 use Rattle.cc_defs.specs.ClauseLists.{positions_from}
 use Rattle.cc_defs.specs.Clauses.{Literal, IsIn, IsOver, Clash, IsResolvent, meets, opposite}
-use Rattle.cc_defs.specs.Rows.{IsRow}
-use Rattle.cc_defs.specs.Sections.{row_denial}
 use Rattle.cc_trail.specs.declared.entries.Step.{Step}
 use Rattle.cc_trail.specs.Steps.{AreSteps, steps_to, values_of}
 use Rattle.cc_trail.specs.Trails.{TrailView, KeepsSettled, IsSettledOver, decided}
@@ -53,15 +51,6 @@ ChoicesAreKept = (sizes : List ℕ) (steps : List Step) →
     ((last : Step) → AreChosen sizes steps → last.reason ≢ None → AreChosen sizes (steps ++ last ∷ [])) ×
     ((trail : TrailView) (literal : Literal) → AreChosen sizes trail.steps → IsNext sizes (values_of trail.steps) literal → AreChosen sizes (decided trail literal).steps) ×
     ((gone : List Step) → AreChosen sizes (steps ++ gone) → AreChosen sizes steps)
-
--- an assignment with a row does not meet the clause that denies the row
-abbrev pub DenialDenies : Type 0
-DenialDenies = (sizes row : List ℕ) (assignment : ℕ → Bool) → IsRow sizes row → HasRow sizes assignment row → meets assignment (row_denial sizes row) ≡ false
-
--- one with another row meets it
-abbrev pub DenialLeavesOthers : Type 0
-DenialLeavesOthers = (sizes row other : List ℕ) (assignment : ℕ → Bool) → IsRow sizes row → IsRow sizes other → other ≢ row → HasRow sizes assignment other →
-    meets assignment (row_denial sizes row) ≡ true
 
 -- A clause that is false by a settled trail has two literals of the last level, unless no level was opened.
 abbrev pub FalseClauseHasTwo : Type 0

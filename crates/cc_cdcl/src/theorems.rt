@@ -1,5 +1,8 @@
-//! Theorems on conflict-driven search, each the contract of a function with no body.
-ghost use Rattle.cc_cdcl.specs.Laws.{ChoicesAreKept, ClosedMeet, DenialDenies, DenialLeavesOthers, EarnedClausesAreNew, EarnedLinesAreFew, FalseClauseHasTwo, FullClosedMeets, LearnedIsEarned, LeastRowIsFound, OpenVariablesExist, OtherIsFalse, ResolventIsFalse};
+//! Theorems on conflict-driven search, each the contract of a function with no body; those on the clause that denies a row are of
+//! clauses alone (cc_clauses).
+ghost use Rattle.cc_cdcl.specs.Laws.{ChoicesAreKept, ClosedMeet, EarnedClausesAreNew, EarnedLinesAreFew, FalseClauseHasTwo, FullClosedMeets, LearnedIsEarned, LeastRowIsFound, OpenVariablesExist, OtherIsFalse, ResolventIsFalse};
+
+pub use cc_clauses::theorems::{denial_denies, denial_leaves_others};
 
 /// What two closed assignments give alike is closed.
 pub fn closed_meet()
@@ -35,16 +38,6 @@ pub fn least_row_is_found()
 /// Propagation, such decisions and going back keep that each decision was one.
 pub fn choices_are_kept()
     ensures { ChoicesAreKept }
-{}
-
-/// An assignment with a row does not meet the clause that denies the row.
-pub fn denial_denies()
-    ensures { DenialDenies }
-{}
-
-/// An assignment with another row meets it.
-pub fn denial_leaves_others()
-    ensures { DenialLeavesOthers }
 {}
 
 /// A clause that is false by a settled trail has two literals of the last level, unless no level was opened.

@@ -1,3 +1,4 @@
+pub mod Denials
 pub mod Halves
 pub mod Literals
 pub mod Merges

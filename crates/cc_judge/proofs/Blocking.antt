@@ -6,8 +6,7 @@ use Rattle.std.proofs.lemmas.Bool.{false≢true}
 use Rattle.std.proofs.lemmas.List.Elements.{Contains-append_cases}
 use Rattle.std.proofs.lemmas.Slice.Eq.{bytes_eq-Decides}
 use Rattle.std.specs.Str.{bytes_eq}
-use Rattle.cc_cdcl.specs.Laws.{DenialLeavesOthers}
-use Rattle.cc_clauses.specs.Laws.{ResolventsAreSound}
+use Rattle.cc_clauses.specs.Laws.{DenialLeavesOthers, ResolventsAreSound}
 use Rattle.cc_clauses.specs.RowsOf.{HasRow, IsRowOf, MeetsAll}
 use Rattle.cc_defs.specs.declared.log.EndWord.{EndWord}
 use Rattle.cc_defs.specs.declared.log.EndWord.TheVariants as words

@@ -3,8 +3,7 @@ use Rattle.std.proofs.Common.{◌≡◌, ◌∙◌, ℕ, ◌+◌, ◌<◌, ◌�
 use Rattle.std.specs.Prelude.{IfErr}
 use Rattle.std.specs.Result.{IsErrAnd}
 use Rattle.std.proofs.lemmas.Bool.{cases_lt}
-use Rattle.cc_cdcl.specs.Laws.{DenialLeavesOthers}
-use Rattle.cc_clauses.specs.Laws.{ResolventsAreSound}
+use Rattle.cc_clauses.specs.Laws.{DenialLeavesOthers, ResolventsAreSound}
 use Rattle.cc_clauses.specs.RowsOf.{IsRowOf}
 use Rattle.cc_defs.specs.declared.lists.Key.{Key}
 use Rattle.cc_defs.specs.declared.log.Cause.{Cause}

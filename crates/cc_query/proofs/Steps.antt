@@ -4,8 +4,7 @@ use Rattle.std.specs.Prelude.{slice_get, IsTrue, Contains}
 use Rattle.std.proofs.lemmas.List.Elements.{Contains-append_left, Contains-append_right, Contains-append_cases}
 use Rattle.std.proofs.lemmas.Grind.{flat_map-append}
 use Rattle.std.proofs.lemmas.Bool.{false≢true}
-use Rattle.cc_cdcl.specs.Laws.{DenialDenies, DenialLeavesOthers}
-use Rattle.cc_clauses.specs.Laws.{ResolventsAreSound}
+use Rattle.cc_clauses.specs.Laws.{DenialDenies, DenialLeavesOthers, ResolventsAreSound}
 use Rattle.cc_clauses.specs.RowsOf.{MeetsAll, HasRow, IsRowOf}
 use Rattle.cc_defs.specs.Clauses.{Literal, IsNumbered, ReachesFrom, Reaches, meets}
 use Rattle.cc_defs.specs.Rows.{IsRow}

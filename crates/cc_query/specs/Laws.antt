@@ -1,8 +1,7 @@
 -- Listings that go on after a key, and what searches rest on.
 use Rattle.std.specs.Prelude.{◌≡◌, ℕ, ◌<◌, ◌≤◌, ◌^◌, List, [], ◌∷◌, ◌++◌, sum, Option, Some}
 use Rattle.std.specs.List.{AllByRecursion}
-use Rattle.cc_cdcl.specs.Laws.{DenialDenies, DenialLeavesOthers}
-use Rattle.cc_clauses.specs.Laws.{ResolventsAreSound}
+use Rattle.cc_clauses.specs.Laws.{DenialDenies, DenialLeavesOthers, ResolventsAreSound}
 use Rattle.cc_defs.specs.declared.lists.Key.{Key}
 use Rattle.cc_defs.specs.declared.log.EndWord.TheVariants as words
 use Rattle.cc_defs.specs.Assignments.{HasOpen}

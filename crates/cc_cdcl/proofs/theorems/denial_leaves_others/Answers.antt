@@ -1,5 +1,0 @@
-use Rattle.cc_cdcl.proofs.Denials.{not_denied}
-use Rattle.cc_cdcl.proofs.theorems.denial_leaves_others.Goals as goal
-
-pub returns : goal.returns
-returns c = not_denied 1
