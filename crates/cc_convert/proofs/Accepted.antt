@@ -19,7 +19,7 @@ use Rattle.cc_defs.specs.Resolved.{Query}
 use Rattle.cc_defs.specs.Runs.{axioms_of, first_horizon, last_horizon}
 use Rattle.cc_defs.specs.Sections.{Finding, Right, Trailed, Wrong, IsFound}
 use Rattle.cc_theory.specs.Theories.{rules_refusal}
-use Rattle.cc_query.specs.Accepted.{subject_of}
+use Rattle.cc_lists.specs.Subjects.{subject_of}
 use Rattle.cc_judge.specs.Judging.{AreJudgedWithin, HasGoodAxioms, HasSections, limit_of}
 use Rattle.cc_log.specs.Versions.{HaveEntries}
 use Rattle.cc_log.proofs.Converting.{reading_of}

@@ -12,7 +12,7 @@ use Rattle.cc_defs.specs.LogVersions.{AreSayable, counts_in, log_in}
 use Rattle.cc_defs.specs.Resolved.{Query}
 use Rattle.cc_defs.specs.Runs.{last_horizon}
 use Rattle.cc_judge.specs.Judging.{IsVerdictWithin}
-use Rattle.cc_query.specs.Accepted.{subject_of}
+use Rattle.cc_lists.specs.Subjects.{subject_of}
 use Rattle.cc_convert.specs.Saying.{AreSaid}
 
 -- The lines of a log in a version: both versions can say them.

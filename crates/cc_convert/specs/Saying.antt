@@ -14,7 +14,7 @@ use Rattle.cc_defs.specs.Resolved.{Query}
 use Rattle.cc_defs.specs.Runs.{first_horizon, last_horizon}
 use Rattle.cc_defs.specs.Sections.{Axioms}
 use Rattle.cc_judge.specs.Judging.{limit_of}
-use Rattle.cc_query.specs.Accepted.{subject_of}
+use Rattle.cc_lists.specs.Subjects.{subject_of}
 
 -- its clause is over variables that a clause list may have
 abbrev pub IsOverMost : LogLine → Type 0

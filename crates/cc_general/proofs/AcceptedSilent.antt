@@ -12,7 +12,7 @@ use Rattle.cc_defs.specs.declared.log.EndWord.TheVariants as words
 use Rattle.cc_defs.specs.declared.log.Version.TheVariants.{First}
 use Rattle.cc_defs.specs.LogTexts.{lines_in}
 use Rattle.cc_defs.specs.Sections.{Finding, Right, Trailed, Wrong, IsFound}
-use Rattle.cc_query.proofs.Steps.{in_cases, in_none}
+use Rattle.cc_lists.proofs.Members.{in_cases, in_none}
 
 not_accepted : (finding : Finding) (count : ℕ) → refused_for finding ≡ Some (verdicts.Accepted count) → ⊥
 not_accepted (Wrong line _) count is = absurd cc

@@ -17,11 +17,11 @@ use Rattle.cc_general.specs.GeneralLogs.{IsCandidateKey, IsRivalsHeading, genera
 use Rattle.cc_general.specs.GeneralRuns.{GeneralEnding, Complete, Asked, NoneAtAll, SpentAmong, SpentOver, GeneralRun, IsFairGeneral, IsShownRightly, Shown, general_horizon}
 use Rattle.cc_general.specs.GeneralTold.{rivals_heading, shown_text, spent_text}
 use Rattle.cc_general.proofs.RowTexts.{joined}
-use Rattle.cc_query.specs.Parts.{section_lines}
-use Rattle.cc_query.proofs.AcceptedEmpty.{lines_within, section_found}
-use Rattle.cc_query.proofs.AcceptedLines.{HasNoFeed, IsNoFeed, IsWithin, all_append, all_both, all_map, cut, digits, letter, letter_within, lines_cut}
-use Rattle.cc_query.proofs.AcceptedLines as texts
-use Rattle.cc_query.proofs.Steps.{in_first, in_none, in_rest}
+use Rattle.cc_lists.specs.Sections.{section_lines}
+use Rattle.cc_lists.proofs.AcceptedEmpty.{lines_within, section_found}
+use Rattle.cc_lists.proofs.AcceptedLines.{HasNoFeed, IsNoFeed, IsWithin, cut, digits, letter, letter_within, lines_cut}
+use Rattle.cc_lists.proofs.AcceptedLines as texts
+use Rattle.cc_lists.proofs.Members.{all_append, all_both, all_map, in_first, in_none, in_rest}
 use Rattle.cc_rivals.specs.Wides.{HistoriesHaveNoRivals}
 use Rattle.cc_wide.specs.WideLaws.{WideDescription}
 use Rattle.cc_wide.specs.WideLists.{rival_axioms}

@@ -9,9 +9,8 @@ use Rattle.cc_defs.specs.Limits.{most_histories}
 use Rattle.cc_defs.specs.Resolved.{Query}
 use Rattle.cc_defs.specs.Rows.{IsBelow, row_cmp}
 use Rattle.cc_general.specs.GeneralRuns.{AreJudged, HasNoGeneral, WentThrough}
-use Rattle.cc_query.proofs.AcceptedLines.{all_append}
+use Rattle.cc_lists.proofs.Members.{all_append, in_cases, in_first, in_none}
 use Rattle.cc_query.proofs.Rows.{first_more, first_none, not_below_itself}
-use Rattle.cc_query.proofs.Steps.{in_cases, in_first, in_none}
 use Rattle.cc_rivals.specs.Wides.{HistoriesHaveNoRivals, rivals_refusal}
 use Rattle.cc_wide.specs.WideLaws.{WideDescription}
 use Rattle.cc_wide.specs.WideRules.{IsCandidate, IsGeneral, IsRival}

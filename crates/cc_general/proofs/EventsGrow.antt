@@ -18,7 +18,7 @@ use Rattle.cc_general.specs.GeneralRuns.{GeneralEnding, Complete, Asked, NoneAtA
 use Rattle.cc_general.specs.Generals.{GeneralView, GoesOn, GoesOnBy, IsOver, IsSpentWith}
 use Rattle.cc_general.specs.GeneralTold.{none_told}
 use Rattle.cc_general.specs.Accepted.{IsUnspentEnding}
-use Rattle.cc_query.specs.Parts.{section_lines, step_line}
+use Rattle.cc_lists.specs.Sections.{section_lines, step_line}
 
 -- ---- lines
 

@@ -10,7 +10,7 @@ use Rattle.cc_form.specs.Places.{position_sizes}
 use Rattle.cc_general.specs.Generals.{GeneralView, IsAmong, IsGeneralOf}
 use Rattle.cc_general.specs.Walks.{IsFormOf, IsListingAt}
 use Rattle.cc_general.proofs.Candidates.{gone_none}
-use Rattle.cc_query.specs.Parts.{open_section}
+use Rattle.cc_lists.specs.Sections.{open_section}
 use Rattle.cc_rivals.specs.Wides.{AreWideLawsOf, candidates_refusal}
 use Rattle.cc_search.specs.Searches.{HasMore, SearchView, Stands}
 use Rattle.cc_wide.specs.WideLaws.{WideDescription, frame}

@@ -28,9 +28,9 @@ use Rattle.cc_general.specs.Walks.{Comes, Gives, HaltsAt, IsListingAt, IsToldOf,
 use Rattle.cc_general.proofs.Candidates.{all_told, candidate, first_told, gone_more, none_told}
 use Rattle.cc_general.proofs.Fairness.{ends_fair, passes_fair, range_is, shown_behind, shows_fair}
 use Rattle.cc_general.proofs.Walking.{all_append, next_found}
-use Rattle.cc_query.specs.Parts.{rows_in, section_of}
+use Rattle.cc_lists.specs.Sections.{rows_in, section_of}
+use Rattle.cc_lists.proofs.Members.{in_none}
 use Rattle.cc_query.specs.Lefts as lefts
-use Rattle.cc_query.proofs.Steps.{in_none}
 use Rattle.cc_rivals.specs.Wides.{HistoriesHaveNoRivals, candidates_refusal}
 use Rattle.cc_search.specs.declared.stage.Stage.{Stage}
 use Rattle.cc_search.specs.declared.stage.Stage.TheVariants as stages

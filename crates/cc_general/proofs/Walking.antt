@@ -25,8 +25,9 @@ use Rattle.cc_general.specs.GeneralRuns.{ComesNext, WentThrough}
 use Rattle.cc_general.specs.Generals.{GeneralView, IsAmong}
 use Rattle.cc_general.specs.Walks.{Comes, IsClosed, IsFormedOutcome, IsFound, IsJudged, IsListingAt, IsShownBy, IsSought, IsWalkFault, halt_of}
 use Rattle.cc_general.proofs.Candidates.{gone_pass, no_history}
-use Rattle.cc_query.specs.Parts.{open_section, rows_in, section_lines, section_of, step_line}
-use Rattle.cc_query.proofs.Steps.{in_first, rows_kept, rows_more}
+use Rattle.cc_lists.specs.Sections.{open_section, rows_in, section_lines, section_of, step_line}
+use Rattle.cc_lists.proofs.Members.{in_first}
+use Rattle.cc_query.proofs.Steps.{rows_kept, rows_more}
 use Rattle.cc_rivals.specs.Wides.{AreWideLawsOf, HistoriesHaveNoRivals, rivals_refusal}
 use Rattle.cc_search.specs.declared.least.Outcome.{Outcome}
 use Rattle.cc_search.specs.declared.least.Outcome.TheVariants as outcomes

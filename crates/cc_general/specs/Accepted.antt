@@ -8,8 +8,8 @@ use Rattle.cc_defs.specs.Resolved.{Query}
 use Rattle.cc_general.specs.GeneralLogs.{general_subject}
 use Rattle.cc_general.specs.GeneralRuns.{GeneralEnding, Complete, Asked, NoneAtAll, SpentAmong, SpentOver, GeneralRun, IsFairGeneral, Shown, general_horizon}
 use Rattle.cc_general.specs.GeneralTold.{general_log}
-use Rattle.cc_query.specs.Accepted.{AreGoodAxioms}
-use Rattle.cc_query.specs.Parts.{section_lines}
+use Rattle.cc_lists.specs.Sections.{section_lines}
+use Rattle.cc_lists.specs.Subjects.{AreGoodAxioms}
 use Rattle.cc_wide.specs.WideLaws.{WideDescription}
 use Rattle.cc_wide.specs.WideLists.{rival_axioms}
 

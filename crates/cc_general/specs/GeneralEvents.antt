@@ -17,7 +17,7 @@ use Rattle.cc_general.specs.GeneralRuns.{GeneralEnding, Complete, Asked, NoneAtA
 use Rattle.cc_general.specs.Generals.{GeneralView, IsGeneralOf, IsOver, IsSame, Stands, left_of}
 use Rattle.cc_general.specs.Generals as turned
 use Rattle.cc_general.specs.GeneralTold.{ending_of, none_told}
-use Rattle.cc_query.specs.Parts.{section_lines}
+use Rattle.cc_lists.specs.Sections.{section_lines}
 use Rattle.cc_wide.specs.WideLaws.{WideDescription}
 
 -- ---- the events of a run

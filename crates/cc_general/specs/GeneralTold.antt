@@ -10,7 +10,7 @@ use Rattle.cc_defs.specs.Resolved.{Query}
 use Rattle.cc_defs.specs.Runs.{Section, optional, range_of, told, told_row}
 use Rattle.cc_defs.specs.Texts.{key_text}
 use Rattle.cc_general.specs.GeneralRuns.{GeneralEnding, Complete, Asked, NoneAtAll, SpentAmong, SpentOver, GeneralRun, Shown, general_horizon, rows_shown}
-use Rattle.cc_query.specs.Parts.{section_lines}
+use Rattle.cc_lists.specs.Sections.{section_lines}
 
 -- ---- events, as those of a listing
 

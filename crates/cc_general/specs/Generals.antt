@@ -22,8 +22,8 @@ use Rattle.cc_general.specs.declared.phase.Phase.{Phase}
 use Rattle.cc_general.specs.declared.phase.Phase.TheVariants as phases
 use Rattle.cc_general.specs.GeneralRuns.{WentThrough, GeneralEnding, Complete, Asked, NoneAtAll, SpentAmong, SpentOver, GeneralRun, IsFairGeneral, ReachesGeneralLimit, general_horizon, rows_shown}
 use Rattle.cc_general.specs.GeneralTold.{ending_of}
-use Rattle.cc_query.specs.Accepted.{AreGoodAxioms}
-use Rattle.cc_query.specs.Parts.{section_lines}
+use Rattle.cc_lists.specs.Sections.{section_lines}
+use Rattle.cc_lists.specs.Subjects.{AreGoodAxioms}
 use Rattle.cc_rivals.specs.Wides.{AreWideLawsFor, AreWideLawsOf, candidates_refusal}
 use Rattle.cc_search.specs.Searches.{SearchView}
 use Rattle.cc_search.specs.Searches as searches

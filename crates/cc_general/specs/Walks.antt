@@ -26,8 +26,8 @@ use Rattle.cc_general.specs.declared.halt.Halt.TheVariants as halts
 use Rattle.cc_general.specs.declared.phase.Phase.TheVariants as phases
 use Rattle.cc_general.specs.GeneralRuns.{ComesNext, GeneralRun, HasManyCandidates, LooksForRival, WentThrough}
 use Rattle.cc_general.specs.Generals.{GeneralView, GoesOn, IsAmong, IsGeneralOf, IsGoodEvent, IsListing, IsWritable, Stands, TellsNext, left_of}
-use Rattle.cc_query.specs.Accepted.{AreGoodAxioms}
-use Rattle.cc_query.specs.Parts.{open_section, rows_in, section_lines, section_of}
+use Rattle.cc_lists.specs.Sections.{open_section, rows_in, section_lines, section_of}
+use Rattle.cc_lists.specs.Subjects.{AreGoodAxioms}
 use Rattle.cc_rivals.specs.Wides.{AreWideLawsOf, candidates_refusal, rivals_refusal}
 use Rattle.cc_search.specs.declared.least.Outcome.{Outcome}
 use Rattle.cc_search.specs.declared.least.Outcome.TheVariants as outcomes

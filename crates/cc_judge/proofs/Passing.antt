@@ -21,9 +21,9 @@ use Rattle.cc_defs.specs.Refusals.{IsRefusedBy}
 use Rattle.cc_defs.specs.Resolved.{Query}
 use Rattle.cc_defs.specs.Sections.{Axioms, Finding, Right, Trailed, Wrong, IsFound}
 use Rattle.cc_form.specs.Forms.{IsAxioms, TellsHistories, asked, form_of}
-use Rattle.cc_query.specs.Accepted.{AreGoodAxioms, subject_of}
-use Rattle.cc_query.specs.Sessions.{refusal_at}
-use Rattle.cc_query.proofs.Shortness.{good_axioms}
+use Rattle.cc_lists.specs.Horizons.{refusal_at}
+use Rattle.cc_lists.specs.Subjects.{AreGoodAxioms, subject_of}
+use Rattle.cc_lists.proofs.GoodAxioms.{good_axioms}
 use Rattle.cc_judge.specs.declared.standing.Next.{Next}
 use Rattle.cc_judge.specs.declared.standing.Next.TheVariants as nexts
 use Rattle.cc_judge.specs.declared.standing.Standing.{Standing as Held}

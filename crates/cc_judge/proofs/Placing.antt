@@ -11,8 +11,8 @@ use Rattle.cc_defs.specs.Runs.{first_horizon, last_horizon}
 use Rattle.cc_defs.specs.Signatures.{Signature}
 use Rattle.cc_form.specs.Forms.{TellsHistories, asked, form_of}
 use Rattle.cc_form.specs.Queries.{IsQueryAt}
-use Rattle.cc_query.specs.Accepted.{subject_of}
-use Rattle.cc_query.specs.Sessions.{Fits, first_at, last_at}
+use Rattle.cc_lists.specs.Horizons.{Fits, first_at, last_at}
+use Rattle.cc_lists.specs.Subjects.{subject_of}
 use Rattle.cc_theory.specs.Theories.{AreLawsOf}
 use Rattle.cc_judge.specs.Standings.{Scope, IsPlaced, row_of, scope_of}
 

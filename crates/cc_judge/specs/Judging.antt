@@ -21,8 +21,8 @@ use Rattle.cc_defs.specs.LogTexts.{header, lines_in}
 use Rattle.cc_defs.specs.Logs.{SectionText, Standing, Subject, AreSections, IsClosedBy, IsFollowed, IsNext, IsNotBinary, at_first, into_middle, next_horizon}
 use Rattle.cc_defs.specs.Resolved.{Query}
 use Rattle.cc_defs.specs.Sections.{Finding, Right, Trailed, Wrong, IsFound}
-use Rattle.cc_query.specs.Accepted.{AreGoodAxioms, subject_of}
-use Rattle.cc_query.specs.Sessions.{refusal_at}
+use Rattle.cc_lists.specs.Horizons.{refusal_at}
+use Rattle.cc_lists.specs.Subjects.{AreGoodAxioms, subject_of}
 
 -- the limit that the axioms of a section pass first: those of the search for a path of the conditions leave the claim out
 abbrev pub limit_of : Description → Query → Option Key → (conditions : Bool) → ℕ → Option Refusal

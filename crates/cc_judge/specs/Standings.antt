@@ -24,8 +24,8 @@ use Rattle.cc_defs.specs.declared.log.Version.{Version}
 use Rattle.cc_defs.specs.Logs.{SectionText, Standing, Subject, AreSections, at_first, into_middle, next_horizon}
 use Rattle.cc_defs.specs.Resolved.{Query}
 use Rattle.cc_defs.specs.Sections.{Axioms, Finding, Right, Trailed, Wrong}
-use Rattle.cc_query.specs.Accepted.{subject_of}
-use Rattle.cc_query.specs.Sessions.{last_at}
+use Rattle.cc_lists.specs.Horizons.{last_at}
+use Rattle.cc_lists.specs.Subjects.{subject_of}
 use Rattle.cc_judge.specs.declared.standing.Next.{Next}
 use Rattle.cc_judge.specs.declared.standing.Next.TheVariants as nexts
 use Rattle.cc_judge.specs.declared.standing.Standing.{Standing as Held}

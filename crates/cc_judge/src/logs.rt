@@ -10,18 +10,17 @@ ghost use Rattle.cc_defs.specs.Resolved.{Query};
 ghost use Rattle.cc_form.specs.Queries.{IsQueryAt};
 ghost use Rattle.cc_judge.specs.Judging.{BlocksHistories, IsJudgeFault, IsVerdictWithin};
 ghost use Rattle.cc_judge.specs.Standings.{AreFew, AreFewIn, IsEarly, IsEarlyIn, IsFaultOn, IsForward, IsJudgedTo, IsSectionFault, IsVerdictOn, scope_of, seen};
-ghost use Rattle.cc_query.specs.Accepted.{subject_of};
-ghost use Rattle.cc_query.specs.Sessions.{Fits, first_at};
+ghost use Rattle.cc_lists.specs.Horizons.{Fits, first_at};
+ghost use Rattle.cc_lists.specs.Subjects.{subject_of};
 ghost use Rattle.cc_theory.specs.Theories.{AreLawsFor, AreLawsOf};
 
 use crate::standing::{Next, Standing, closing, first_of, follow, is_next};
 use cc_arena::{GroundQuery, Laws};
-use cc_cdcl::theorems::denial_leaves_others;
 use cc_check::theorems::{misreads_are_verdicts, sections_give_verdicts};
 use cc_check::{CheckFault, Section, Sections, find};
-use cc_clauses::theorems::resolvents_are_sound;
+use cc_clauses::theorems::{denial_leaves_others, resolvents_are_sound};
 use cc_defs::{Cause, Fault, Key, LogVerdict, Sig};
-use cc_query::form_at;
+use cc_lists::form_at;
 use std::alloc::Global;
 
 // What is behind a section, which is judged over the clause list of its horizon where it is the one that comes next.

@@ -8,10 +8,9 @@ ghost use Rattle.cc_judge.specs.Single.{BlocksAll, subject_over};
 ghost use Rattle.cc_judge.specs.Standings.{AreFew, AreFewIn, IsEarly, IsEarlyIn, IsForward, IsJudgedTo, IsOnly, IsVerdictOn, scope_over, seen};
 
 use crate::standing::{Next, Standing, closing, follow};
-use cc_cdcl::theorems::denial_leaves_others;
 use cc_check::theorems::{misreads_are_verdicts, sections_give_verdicts};
 use cc_check::{CheckFault, Section, Sections, find};
-use cc_clauses::theorems::resolvents_are_sound;
+use cc_clauses::theorems::{denial_leaves_others, resolvents_are_sound};
 use cc_defs::{Cause, LogVerdict, OutOfMemory};
 use cc_form::Form;
 use std::alloc::Global;

@@ -4,7 +4,7 @@ ghost use Rattle.std.specs.Option.{option_map};
 ghost use Rattle.cc_arena.specs.GroundViews.{plain_ground_query};
 ghost use Rattle.cc_check.specs.Clauses.{plain_finding};
 ghost use Rattle.cc_defs.specs.Limits.{most_steps};
-ghost use Rattle.cc_query.specs.Sessions.{first_at, last_at};
+ghost use Rattle.cc_lists.specs.Horizons.{first_at, last_at};
 ghost use Rattle.cc_judge.specs.Standings.{HasRoom, IsBehind, IsBehindFinding, IsBehindTrail, IsClosedAt, IsPlaced, seen};
 
 use cc_arena::GroundQuery;

@@ -12,8 +12,8 @@ use Rattle.cc_defs.specs.Limits.{most_clauses}
 use Rattle.cc_defs.specs.LogVersions.{own_behind}
 use Rattle.cc_defs.specs.Resolved.{Query}
 use Rattle.cc_defs.specs.Runs.{Ask, AreFair, axioms_of, events_of, first_horizon}
-use Rattle.cc_query.specs.Accepted.{lines_of}
-use Rattle.cc_query.specs.Sessions.{After, IsOpened, IsSame, IsSessionOf, OpensWithin, SessionView, StandsOpened, with_row}
+use Rattle.cc_lists.specs.Subjects.{lines_of, with_row}
+use Rattle.cc_query.specs.Sessions.{After, IsOpened, IsSame, IsSessionOf, OpensWithin, SessionView, StandsOpened}
 use Rattle.cc_list.specs.Telling.{HasFewAxioms, HasGoodLines, counts_of}
 use Rattle.cc_tell.specs.declared.telling.Teller.{Teller}
 use Rattle.cc_tell.specs.declared.telling.Teller.TheVariants as tellers

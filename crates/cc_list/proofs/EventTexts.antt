@@ -12,7 +12,7 @@ use Rattle.cc_defs.specs.Description.{Description}
 use Rattle.cc_defs.specs.Events.{line_told, out_text, told_text}
 use Rattle.cc_defs.specs.LogTexts.{line_text}
 use Rattle.cc_defs.specs.LogVersions.{line_bytes, lines_bytes, own_behind}
-use Rattle.cc_query.specs.Accepted.{lines_of}
+use Rattle.cc_lists.specs.Subjects.{lines_of}
 use Rattle.cc_tell.specs.declared.telling.Teller.{Teller}
 use Rattle.cc_tell.specs.declared.telling.Teller.TheVariants as tellers
 use Rattle.cc_tell.specs.Manners.{Manner, Summed, out_told, summed}

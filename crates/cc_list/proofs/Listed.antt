@@ -17,9 +17,10 @@ use Rattle.cc_defs.specs.Signatures.{Signature}
 use Rattle.cc_describe.specs.declared.description.Described.{Described}
 use Rattle.cc_ports.specs.declared.desk.To.TheVariants as outputs
 use Rattle.cc_ports.specs.Moments.{Moment}
+use Rattle.cc_lists.specs.Subjects.{with_row}
 use Rattle.cc_query.specs.Lefts.{left_of}
 use Rattle.cc_query.specs.Laws.{SpentBudgetsAreSmall}
-use Rattle.cc_query.specs.Sessions.{After, HasMore, IsSame, IsSessionOf, SessionView, with_row}
+use Rattle.cc_query.specs.Sessions.{After, HasMore, IsSame, IsSessionOf, SessionView}
 use Rattle.cc_list.specs.Asking.{AreOf}
 use Rattle.cc_list.specs.Laws.{LogLaws}
 use Rattle.cc_list.specs.Searching.{EndsSo, IsTold}

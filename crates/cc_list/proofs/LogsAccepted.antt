@@ -20,7 +20,8 @@ use Rattle.cc_defs.specs.LogVersions.{counts_in, lines_bytes, log_in, own_behind
 use Rattle.cc_defs.specs.Logs.{IsAccepted, Subject}
 use Rattle.cc_defs.specs.Resolved.{Query}
 use Rattle.cc_defs.specs.Runs.{Ask, Horizon, Histories, Conditions, Claim, Failure, Run, IsFairRun, MayEnd, done_events, events_of, first_horizon, horizon_at, horizon_events, optional, told}
-use Rattle.cc_query.specs.Accepted.{IsReported, lines_of, subject_of}
+use Rattle.cc_lists.specs.Subjects.{lines_of, subject_of}
+use Rattle.cc_query.specs.Accepted.{IsReported}
 use Rattle.cc_list.specs.Laws.{LogLaws}
 use Rattle.cc_list.specs.Searching.{AreLogsAccepted, IsLogAccepted, only_reported}
 use Rattle.cc_list.specs.Telling.{HasGoodLines, counts_of, task_of}

@@ -22,7 +22,7 @@ use Rattle.cc_ground.specs.Counting.{laws_refusal}
 use Rattle.cc_laws.specs.Questions.{first, steps_refusal}
 use Rattle.cc_print.specs.Keys.{IsKeyText}
 use Rattle.cc_print.specs.Laws.{OneKey}
-use Rattle.cc_query.specs.Sessions.{FitsIn}
+use Rattle.cc_lists.specs.Horizons.{FitsIn}
 use Rattle.cc_list.specs.Asking.{IsAskedAs, IsFaultNamed, IsKeyFault, found_refusal}
 use Rattle.cc_list.specs.Tasks.{HasNoKey, IsKeyOf, asked_refusal, has_label, query_named, query_refusal}
 use Rattle.cc_sorts.specs.Tables.{IsTable, TableView, placed_of}

@@ -15,7 +15,7 @@ use Rattle.cc_defs.specs.Rows.{IsRow}
 use Rattle.cc_defs.specs.Runs.{Ask, Horizon, Histories, Conditions, Claim, Failure, Run, Section, AreDone, IsFairRun, IsFairSection, IsTrueOf, LooksForOne, axioms_of, denied_rows, done_events, events_of, first_horizon, horizon_at, horizon_events, key_row, last_horizon, logged, optional, said_of, section_events, step_events, told, told_row}
 use Rattle.cc_defs.specs.Sections.{Axioms}
 use Rattle.cc_defs.specs.ClauseLists.{clause_list}
-use Rattle.cc_query.specs.Accepted.{AreGoodAxioms, lines_of}
+use Rattle.cc_lists.specs.Subjects.{AreGoodAxioms, lines_of}
 use Rattle.cc_list.specs.Telling.{HasGoodLines, counts_of}
 use Rattle.cc_tell.specs.EventTexts.{own_after}
 use Rattle.cc_theory.specs.Theories.{rules_refusal}

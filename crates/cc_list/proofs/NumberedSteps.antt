@@ -19,7 +19,7 @@ use Rattle.cc_defs.specs.Rows.{IsRow}
 use Rattle.cc_defs.specs.Runs.{Step, Derive, Tell, AreFairSteps, counted_in, row_told, step_events}
 use Rattle.cc_defs.specs.Sections.{row_denial}
 use Rattle.cc_form.specs.Forms.{form_refusal}
-use Rattle.cc_query.specs.Accepted.{lines_of}
+use Rattle.cc_lists.specs.Subjects.{lines_of}
 use Rattle.cc_tell.specs.EventTexts.{own_after}
 use Rattle.cc_tell.specs.Tellers.{IsWritable}
 use Rattle.cc_list.proofs.GoodClauses.{IsGood, chain_good, clause_few, denial_good, in_first, in_rest, row_few}

@@ -11,12 +11,13 @@ use Rattle.cc_defs.specs.GroundLaws.{PlainGroundQuery, StandsForQuery}
 use Rattle.cc_defs.specs.Refusals.{past}
 use Rattle.cc_defs.specs.Resolved.{Query}
 use Rattle.cc_defs.specs.Runs.{Ask, Horizon, Run, IsFairRun, events_of, first_horizon, horizon_at, last_horizon, range_of}
+use Rattle.cc_lists.specs.Horizons.{last_at, opening_refusal}
 use Rattle.cc_query.specs.declared.phase.Part.{Part}
 use Rattle.cc_query.specs.declared.phase.Part.TheVariants as parts
 use Rattle.cc_query.specs.declared.phase.Phase.{Phase}
 use Rattle.cc_query.specs.declared.phase.Phase.TheVariants as phases
 use Rattle.cc_query.specs.Parts.{is_conditions}
-use Rattle.cc_query.specs.Sessions.{After, Awaits, HasMore, HasTooMany, IsSessionOf, MayRefuse, Opens, SessionView, StandsBehind, last_at, opening_refusal, opens_at}
+use Rattle.cc_query.specs.Sessions.{After, Awaits, HasMore, HasTooMany, IsSessionOf, MayRefuse, Opens, SessionView, StandsBehind, opens_at}
 use Rattle.cc_list.specs.Searching.{OpensNext, PassesLimit, horizon_of}
 use Rattle.cc_list.specs.Tasks.{Task}
 use Rattle.cc_list.proofs.RunEvents.{both_open}

@@ -17,7 +17,7 @@ use Rattle.cc_defs.specs.Resolved.{Query}
 use Rattle.cc_defs.specs.Rows.{IsRow}
 use Rattle.cc_defs.specs.Runs.{Ask, Step, Derive, Tell, Section, Horizon, Histories, Conditions, Claim, Failure, Run, AreDone, IsFairRun, IsTrueOf, denied_rows, done_events, events_of, first_horizon, horizon_at, horizon_events, key_row, last_horizon, logged, optional, row_told, rows_of, said_of, section_events, step_events, told, told_row}
 use Rattle.cc_defs.specs.Signatures.{Signature}
-use Rattle.cc_query.specs.Sessions.{with_row}
+use Rattle.cc_lists.specs.Subjects.{with_row}
 use Rattle.cc_tell.specs.EventTexts.{IsRowOfEvent}
 
 -- ---- counting events

@@ -17,7 +17,7 @@ use Rattle.cc_defs.specs.Paths.{IsPath}
 use Rattle.cc_defs.specs.Resolved.{Query}
 use Rattle.cc_defs.specs.Rows.{IsRow}
 use Rattle.cc_defs.specs.Runs.{Ask, Horizon, Histories, Conditions, Claim, Failure, Run, Section, EndsWith, IsFairRun, IsFairSection, IsTrueOf, LooksForOne, MayEnd, MayEndWithin, axioms_of, denied_rows, done_events, events_of, first_horizon, horizon_at, horizon_events, key_row, last_horizon, optional, rows_of, section_events, told}
-use Rattle.cc_query.specs.Accepted.{HaveGoodAxioms, lines_of}
+use Rattle.cc_lists.specs.Subjects.{HaveGoodAxioms, lines_of}
 use Rattle.cc_query.specs.Laws.{SpentBudgetsAreSmall}
 use Rattle.cc_list.specs.Searching.{IsSpentEarly, axioms_in}
 use Rattle.cc_list.specs.Telling.{HasGoodLines, task_of}

@@ -15,8 +15,8 @@ use Rattle.cc_defs.specs.Limits.{most_histories}
 use Rattle.cc_defs.specs.LogTexts.{IsFormed}
 use Rattle.cc_defs.specs.Resolved.{Query}
 use Rattle.cc_defs.specs.Runs.{Ask, axioms_of}
-use Rattle.cc_query.specs.Accepted.{AreGoodAxioms, lines_of}
-use Rattle.cc_query.specs.Sessions.{IsFewEvent, IsShortEvent, refusal_at, with_row}
+use Rattle.cc_lists.specs.Horizons.{refusal_at}
+use Rattle.cc_lists.specs.Subjects.{AreGoodAxioms, IsFewEvent, IsShortEvent, lines_of, with_row}
 use Rattle.cc_list.specs.Searching.{KeepsLimits}
 use Rattle.cc_list.specs.Telling.{HasGoodLines, task_of}
 use Rattle.cc_tell.proofs.OwnNumbers.{lines_both}

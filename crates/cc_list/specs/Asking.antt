@@ -13,7 +13,7 @@ use Rattle.cc_defs.specs.Resolved.{Query}
 use Rattle.cc_defs.specs.Signatures.{Signature}
 use Rattle.cc_form.specs.Queries.{IsQueryAt}
 use Rattle.cc_laws.specs.Questions.{steps_refusal}
-use Rattle.cc_query.specs.Sessions.{Fits}
+use Rattle.cc_lists.specs.Horizons.{Fits}
 use Rattle.cc_list.specs.Tasks.{HasNoKey, IsKeyNamed, asked_refusal, query_named, query_refusal, refusal_without_place}
 use Rattle.cc_theory.specs.Theories.{AreLawsFor, AreLawsOf}
 use Rattle.cc_words.specs.Words.{Text}

@@ -6,7 +6,8 @@ use Rattle.cc_defs.specs.LogTexts.{IsFormed}
 use Rattle.cc_defs.specs.Runs.{IsFairRun, Run}
 use Rattle.cc_log.specs.Laws.{WrittenLinesAreEntries}
 use Rattle.cc_log.specs.Versions.{AcceptedLogsAreSayable, OtherVersionsAreJudgedAlike}
-use Rattle.cc_query.specs.Accepted.{WrittenLogsAreAccepted, lines_of}
+use Rattle.cc_lists.specs.Subjects.{lines_of}
+use Rattle.cc_query.specs.Accepted.{WrittenLogsAreAccepted}
 use Rattle.cc_list.specs.Searching.{told_by}
 use Rattle.cc_list.specs.Tasks.{Task}
 

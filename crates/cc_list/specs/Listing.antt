@@ -5,7 +5,7 @@ use Rattle.cc_defs.specs.Runs.{Run}
 use Rattle.cc_describe.specs.declared.heads.Heads.TheVariants as heads
 use Rattle.cc_describe.specs.Describing.{AreToOpen}
 use Rattle.cc_describe.specs.Places.{Files}
-use Rattle.cc_query.specs.Accepted.{subject_of}
+use Rattle.cc_lists.specs.Subjects.{subject_of}
 use Rattle.cc_list.specs.Promises.{Promise, IsEndStatus}
 use Rattle.cc_list.specs.Searching.{IsTold}
 use Rattle.cc_list.specs.Tasks.{IsTask, RefusesNamed, Task, named_by}

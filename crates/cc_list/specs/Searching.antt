@@ -16,8 +16,9 @@ use Rattle.cc_defs.specs.Logs.{IsAccepted}
 use Rattle.cc_defs.specs.Refusals.{past}
 use Rattle.cc_defs.specs.Runs.{Horizon, Histories, Conditions, Claim, Failure, Run, EndsWith, IsFairRun, axioms_of, events_of, first_horizon, horizon_at, last_horizon}
 use Rattle.cc_defs.specs.Sections.{Axioms}
-use Rattle.cc_query.specs.Accepted.{lines_of, subject_of}
-use Rattle.cc_query.specs.Sessions.{TellsTooMany, opening_refusal}
+use Rattle.cc_lists.specs.Horizons.{opening_refusal}
+use Rattle.cc_lists.specs.Subjects.{lines_of, subject_of}
+use Rattle.cc_query.specs.Sessions.{TellsTooMany}
 use Rattle.cc_list.specs.Tasks.{Task}
 use Rattle.cc_list.specs.Wholes.{Whole}
 use Rattle.cc_tell.specs.declared.status.Status.{Status}

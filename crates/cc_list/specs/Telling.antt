@@ -15,8 +15,9 @@ use Rattle.cc_defs.specs.Resolved.{Query}
 use Rattle.cc_defs.specs.Runs.{Ask, axioms_of}
 use Rattle.cc_describe.specs.declared.description.Described.{Described}
 use Rattle.cc_ports.specs.Moments.{Moment}
-use Rattle.cc_query.specs.Accepted.{HaveGoodAxioms, lines_of, subject_of}
-use Rattle.cc_query.specs.Sessions.{After, HasMore, IsSame, IsSessionOf, SessionView, refusal_at}
+use Rattle.cc_lists.specs.Horizons.{refusal_at}
+use Rattle.cc_lists.specs.Subjects.{HaveGoodAxioms, lines_of, subject_of}
+use Rattle.cc_query.specs.Sessions.{After, HasMore, IsSame, IsSessionOf, SessionView}
 use Rattle.cc_list.specs.Stops.{Searches}
 use Rattle.cc_list.specs.Tasks.{Task}
 use Rattle.cc_tell.specs.declared.status.Status.{Status}

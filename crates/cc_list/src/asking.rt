@@ -13,7 +13,7 @@ ghost use Rattle.cc_form.specs.Queries.{IsQueryAt};
 ghost use Rattle.cc_laws.specs.Questions.{steps_refusal};
 ghost use Rattle.cc_laws.specs.Vocabulary.{vocabulary_of};
 ghost use Rattle.cc_print.specs.Keys.{IsKeyText};
-ghost use Rattle.cc_query.specs.Sessions.{Fits};
+ghost use Rattle.cc_lists.specs.Horizons.{Fits};
 ghost use Rattle.cc_list.specs.Asking.{AreNamed, IsAskedAs, IsFaultNamed, IsKeyFault, found_refusal};
 ghost use Rattle.cc_list.specs.Preparing.{IsSearchable, StandsFor};
 ghost use Rattle.cc_list.specs.Tasks as tasks;
@@ -26,9 +26,9 @@ use cc_arena::{GroundQuery, Laws, Terms};
 use cc_defs::{Fault, Key, Query, Refusal, Sig};
 use cc_describe::Described;
 use cc_laws::query_steps;
+use cc_lists::fits;
 use cc_print::read_key;
 use cc_print::theorems::one_key;
-use cc_query::fits;
 use std::alloc::Global;
 
 /// What a search works on.

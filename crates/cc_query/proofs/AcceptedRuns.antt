@@ -24,11 +24,12 @@ use Rattle.cc_defs.specs.Resolved.{Query}
 use Rattle.cc_defs.specs.Rows.{IsRow}
 use Rattle.cc_defs.specs.Runs.{Ask, Run, Step, Derive, Tell, Section, Horizon, Histories, Conditions, Claim, Failure, AreDone, IsTrueOf, IsExhausted, IsFairRun, IsFairSection, TellsHistories, EndsWith, axioms_of, denied_rows, rows_of, optional, key_row, told, logged, told_row, step_events, section_events, horizon_events, said_of, done_events, events_of, first_horizon, last_horizon, horizon_at}
 use Rattle.cc_defs.specs.Sections.{Right, EndsRightly}
-use Rattle.cc_query.specs.Accepted.{AreGoodAxioms, HaveGoodAxioms, IsReported, WrittenLogsAreAccepted, lines_of, subject_of}
-use Rattle.cc_query.specs.Parts.{step_line}
-use Rattle.cc_query.proofs.AcceptedLines.{all_front, all_behind, log_cut, no_headings, not_binary, read_back}
-use Rattle.cc_query.proofs.AcceptedSections.{IsWritten, inner_lines, written}
-use Rattle.cc_query.proofs.Steps.{in_first, in_rest}
+use Rattle.cc_lists.specs.Sections.{step_line}
+use Rattle.cc_lists.specs.Subjects.{AreGoodAxioms, HaveGoodAxioms, lines_of, subject_of}
+use Rattle.cc_lists.proofs.AcceptedLines.{log_cut, no_headings, not_binary, read_back}
+use Rattle.cc_lists.proofs.AcceptedSections.{IsWritten, inner_lines, written}
+use Rattle.cc_lists.proofs.Members.{all_front, all_behind, in_first, in_rest}
+use Rattle.cc_query.specs.Accepted.{IsReported, WrittenLogsAreAccepted}
 
 -- ---- headings
 

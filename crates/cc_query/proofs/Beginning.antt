@@ -9,12 +9,13 @@ use Rattle.cc_defs.specs.declared.lists.Key.{Key}
 use Rattle.cc_defs.specs.Description.{Description}
 use Rattle.cc_defs.specs.GroundLaws.{PlainGroundQuery, ground_condition}
 use Rattle.cc_defs.specs.Resolved.{Condition, Query}
+use Rattle.cc_lists.specs.Horizons.{first_at, last_at}
+use Rattle.cc_lists.proofs.Ranges.{first_is, last_is}
 use Rattle.cc_query.specs.declared.phase.Part.{Part}
 use Rattle.cc_query.specs.declared.phase.Part.TheVariants as parts
 use Rattle.cc_query.specs.declared.phase.Phase.{Phase}
 use Rattle.cc_query.specs.declared.phase.Phase.TheVariants as phases
-use Rattle.cc_query.specs.Sessions.{SessionView, After, Awaits, IsSessionOf, Opens, first_at, last_at}
-use Rattle.cc_query.proofs.Giving.{first_is, last_is}
+use Rattle.cc_query.specs.Sessions.{SessionView, After, Awaits, IsSessionOf, Opens}
 use Rattle.cc_query.proofs.Running.{run_at}
 
 first_of_claim : (d : Description) (claim : Option Condition) (ground : Option GroundCondition) (part : Part) →

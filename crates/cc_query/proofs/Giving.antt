@@ -1,6 +1,6 @@
 -- What each step of a session gives.
 use Rattle.std.proofs.Common.{◌≡◌, ◌≢◌, ◌∙◌, ℕ, ◌+◌, ◌<◌, ◌≤◌, ◌⊎◌, Bool, true, List, [], ◌∷◌, ◌++◌, Option, Some, None, refl, sym, subst, ap, arith}
-use Rattle.std.specs.Prelude.{Contains, IfSome, IsSome, is_some, unwrap_or, if◌then◌else◌}
+use Rattle.std.specs.Prelude.{Contains, IfSome, IsSome, is_some, if◌then◌else◌}
 use Rattle.std.specs.Option.{option_map}
 use Rattle.std.proofs.lemmas.Bool.{false≢true}
 use Rattle.cc_cdcl.specs.Solvers.{SolverView, Found, AddsDerived}
@@ -20,22 +20,24 @@ use Rattle.cc_defs.specs.Description.{Description}
 use Rattle.cc_defs.specs.GroundLaws.{PlainGroundQuery, StandsForQuery, ground_condition}
 use Rattle.cc_defs.specs.Limits.{most_histories}
 use Rattle.cc_defs.specs.Resolved.{Condition, Query}
-use Rattle.cc_defs.specs.Runs.{axioms_of, last_horizon, first_horizon, range_of}
+use Rattle.cc_defs.specs.Runs.{axioms_of, last_horizon}
 use Rattle.cc_defs.specs.Sections.{HasNoEmpty, row_denial}
 use Rattle.cc_kernel.specs.declared.kernel.Origin.TheVariants as origins
 use Rattle.cc_kernel.specs.Kernels.{added, clauses_of, derived_count}
+use Rattle.cc_lists.specs.Horizons.{Fits, last_at, opening_refusal}
+use Rattle.cc_lists.specs.Subjects.{AreGoodAxioms, IsFewEvent, IsShortEvent, with_row}
+use Rattle.cc_lists.proofs.Ranges.{last_is, last_low}
 use Rattle.cc_query.specs.declared.phase.Part.{Part}
 use Rattle.cc_query.specs.declared.phase.Part.TheVariants as parts
 use Rattle.cc_query.specs.declared.phase.Phase.{Phase}
 use Rattle.cc_query.specs.declared.phase.Phase.TheVariants as phases
 use Rattle.cc_query.specs.Laws.{SearchLaws}
 use Rattle.cc_query.specs.Parts.{axioms_at, is_conditions}
-use Rattle.cc_query.specs.Accepted.{AreGoodAxioms}
 use Rattle.cc_query.specs.Events.{Gives}
 use Rattle.cc_query.specs.Lefts.{left_at, left_behind, left_of}
-use Rattle.cc_query.specs.Sessions.{SessionView, After, Awaits, Fits, HasFound, Holds, IsAskable, IsFewEvent, IsSame, IsSessionOf, IsShortEvent, IsWithin, RowsAreHistories, Tells, ending_behind, first_at, last_at, opening_refusal, opens_at, with_row}
+use Rattle.cc_query.specs.Sessions.{SessionView, After, Awaits, HasFound, Holds, IsAskable, IsSame, IsSessionOf, IsWithin, RowsAreHistories, Tells, ending_behind, opens_at}
 use Rattle.cc_query.proofs.Lessening.{less_at, less_block, less_heading, less_history, less_line, less_next}
-use Rattle.cc_query.proofs.Shortness.{last_low, line_short, row_short}
+use Rattle.cc_query.proofs.Shortness.{line_short, row_short}
 use Rattle.cc_query.proofs.Going.{IsAskFor, after_asked, after_block, after_all_asked, after_budget, after_claim_heading, after_complete, after_counterexample, after_empty, after_empty_line, after_failing, after_found, after_heading, after_history, after_holds, after_last, after_last_claim, after_line, after_no_conditions, after_no_history, after_refuted, after_spent, telling}
 
 -- ---- what is asked goes with the query
@@ -59,20 +61,6 @@ asks_for s d q askable of = record {
     positive_of : (count : Option ℕ) → IfSome count (λ most. 1 ≤ most) → IfSome count (λ most. 0 < most)
     positive_of None is = tt
     positive_of (Some most) is = omega arith
-
-range_is_of : (d : Description) (q : Query) (query : PlainGroundQuery) → StandsForQuery query d q → (query.lo ≡ (range_of q).0) × (query.hi ≡ (range_of q).1)
-range_is_of d q query (range, range_is, is) = (
-  ap (λ (made : PlainGroundQuery). made.lo) is ∙ sym (ap (λ (r : Option (ℕ × ℕ)). (unwrap_or r (1, 0)).0) range_is),
-  ap (λ (made : PlainGroundQuery). made.hi) is ∙ sym (ap (λ (r : Option (ℕ × ℕ)). (unwrap_or r (1, 0)).1) range_is),
-)
-
-pub first_is : (d : Description) (q : Query) (query : PlainGroundQuery) (after : Option Key) → StandsForQuery query d q → first_at query after ≡ first_horizon q after
-first_is d q query None stands = (range_is_of d q query stands).0
-first_is d q query (Some key) stands = refl
-
-pub last_is : (d : Description) (q : Query) (query : PlainGroundQuery) (after : Option Key) → StandsForQuery query d q → last_at query after ≡ last_horizon q after
-last_is d q query None stands = (range_is_of d q query stands).1
-last_is d q query (Some key) stands = refl
 
 -- ---- events
 

@@ -25,19 +25,21 @@ use Rattle.cc_defs.specs.Runs.{Ask, Step, Derive, Tell, Section, Horizon, Histor
 use Rattle.cc_defs.specs.Sections.{Axioms, HasNoEmpty, row_denial}
 use Rattle.cc_kernel.specs.declared.kernel.Origin.TheVariants as origins
 use Rattle.cc_kernel.specs.Kernels.{Entry, added, axiom_of, clauses_of, derived_count}
+use Rattle.cc_lists.specs.Sections.{section_of, open_section, rows_in}
+use Rattle.cc_lists.proofs.Members.{in_first, in_none}
 use Rattle.cc_query.specs.declared.phase.Part.{Part}
 use Rattle.cc_query.specs.declared.phase.Part.TheVariants as parts
 use Rattle.cc_query.specs.declared.phase.Phase.{Phase}
 use Rattle.cc_query.specs.declared.phase.Phase.TheVariants as phases
 use Rattle.cc_query.specs.Laws.{SearchLaws as Laws}
-use Rattle.cc_query.specs.Parts.{axioms_at, is_conditions, told_by, section_of, open_section, rows_in, MayAsk, TellsTrue}
+use Rattle.cc_query.specs.Parts.{axioms_at, is_conditions, told_by, MayAsk, TellsTrue}
 use Rattle.cc_query.specs.Sessions.{SessionView, After, Awaits, Holds, HasTooMany, IsClosed, IsOpened, IsRefuted, IsSearched, IsTold, Opens, RowsAreHistories, has_conditions}
 use Rattle.cc_query.proofs.Holding.{axioms_alone, clauses_held, counted_as_derived, counted_within, holds_block, holds_line}
 use Rattle.cc_query.proofs.Opened.{as_many, nothing_behind}
 use Rattle.cc_query.proofs.PartsTold.{IsGoingOn, asked_of, asked_true, begun, counterexample_first, denied_on, empty_true, found_true, going_on, going_on_told, line_on, next_first, open_true, spent_true, telling_true, true_of}
 use Rattle.cc_query.proofs.Running.{IsRunning, begins, block_event, end_event, ends_behind, ends_within, goes_on, history_event, horizon_event, line_event, passes, run_at, running, true_there, within_there}
 use Rattle.cc_query.proofs.Told.{still_fewer}
-use Rattle.cc_query.proofs.Steps.{added_behind, counted_more, in_first, in_none, rows_kept, rows_more}
+use Rattle.cc_query.proofs.Steps.{added_behind, counted_more, rows_kept, rows_more}
 
 -- what is asked goes with the query
 pub record IsAskFor (q : Query) (ask : Ask) : Type 0 where

@@ -10,9 +10,10 @@ use Rattle.cc_defs.specs.Runs.{Step, Derive, Tell, counted_in}
 use Rattle.cc_defs.specs.Sections.{Axioms, HasNoEmpty, row_denial}
 use Rattle.cc_kernel.specs.declared.kernel.Origin.TheVariants as origins
 use Rattle.cc_kernel.specs.Kernels.{Entry, KernelView, added, axiom_of, clauses_of, derived_count, is_given}
-use Rattle.cc_query.specs.Parts.{clause_added, clauses_behind, rows_in}
+use Rattle.cc_lists.specs.Sections.{rows_in}
+use Rattle.cc_lists.proofs.Members.{in_first, in_rest}
+use Rattle.cc_query.specs.Parts.{clause_added, clauses_behind}
 use Rattle.cc_query.specs.Sessions.{Holds, entry_of}
-use Rattle.cc_query.proofs.Steps.{in_first, in_rest}
 
 abbrev clause_in : Entry → List Literal
 clause_in entry = entry.clause

@@ -9,8 +9,8 @@ use Rattle.cc_defs.specs.declared.log.LogLine.{LogLine}
 use Rattle.cc_defs.specs.Description.{Description}
 use Rattle.cc_defs.specs.Resolved.{Query}
 use Rattle.cc_defs.specs.Runs.{Ask, Step, Section, Horizon, Histories, Conditions, Claim, Failure, EndsWith, IsExhausted, IsTrueOf, MayEndWithin, TellsHistories, denied_rows, horizon_events, optional, rows_of, section_events}
-use Rattle.cc_query.specs.Accepted.{lines_of}
-use Rattle.cc_query.proofs.LinesRead.{IsAlike, IsHeaded, asked_lines, claim_lines, failed_lines, sections_alike, some_line}
+use Rattle.cc_lists.specs.Subjects.{lines_of}
+use Rattle.cc_lists.proofs.LinesRead.{IsAlike, IsHeaded, asked_lines, claim_lines, failed_lines, sections_alike, some_line}
 
 -- ---- sections
 

@@ -9,7 +9,7 @@ use Rattle.cc_defs.specs.Description.{Description}
 use Rattle.cc_defs.specs.Histories.{AreFirstOf, IsHistory}
 use Rattle.cc_defs.specs.Resolved.{Query}
 use Rattle.cc_defs.specs.Runs.{Ask, Step, Section, Horizon, Histories, Conditions, Claim, Failure, EndsWith, IsTrueOf, MayEndWithin, TellsHistories, denied_rows, horizon_events, key_row, optional, row_told, rows_of, section_events}
-use Rattle.cc_query.proofs.LinesRead.{IsAlike}
+use Rattle.cc_lists.proofs.LinesRead.{IsAlike}
 use Rattle.cc_query.proofs.HorizonsAlike.{AreAlike, other_word, same_section, same_silent}
 use Rattle.cc_query.proofs.SameRows.{same_next}
 use Rattle.cc_query.proofs.TextSizes.{ending_events, failed_longer, section_longer, size}

@@ -33,6 +33,9 @@ use Rattle.cc_defs.specs.Runs.{Ask}
 use Rattle.cc_defs.specs.Sections.{HasNoEmpty, row_denial}
 use Rattle.cc_kernel.specs.declared.kernel.Origin.TheVariants as origins
 use Rattle.cc_kernel.specs.Kernels.{Entry, KernelView, added, clauses_of, first_empty, number_if_empty}
+use Rattle.cc_lists.specs.Horizons.{last_at, opening_refusal}
+use Rattle.cc_lists.specs.Subjects.{with_row}
+use Rattle.cc_lists.proofs.Members.{in_cases, in_first, in_none, in_rest}
 use Rattle.cc_query.specs.declared.phase.Part.{Part}
 use Rattle.cc_query.specs.declared.phase.Part.TheVariants as parts
 use Rattle.cc_query.specs.declared.phase.Phase.{Phase}
@@ -40,12 +43,11 @@ use Rattle.cc_query.specs.declared.phase.Phase.TheVariants as phases
 use Rattle.cc_query.specs.Laws.{SearchLaws}
 use Rattle.cc_query.specs.Parts.{is_conditions}
 use Rattle.cc_query.specs.Events.{Gives}
-use Rattle.cc_query.specs.Sessions.{SessionView, After, HasFound, IsAskable, IsBlocked, IsReady, IsRightFault, IsSession, IsSessionOf, IsWithin, ending_behind, last_at, opening_refusal, opens_at, with_row}
+use Rattle.cc_query.specs.Sessions.{SessionView, After, HasFound, IsAskable, IsBlocked, IsReady, IsRightFault, IsSession, IsSessionOf, IsWithin, ending_behind, opens_at}
 use Rattle.cc_query.proofs.Giving.{asks_for, gives_all_asked, gives_block, gives_budget, gives_complete, gives_counterexample, gives_empty, gives_empty_line, gives_failing, gives_found, gives_history, gives_holds, gives_last, gives_line, gives_no_conditions, gives_no_history, gives_refuted, gives_spent}
 use Rattle.cc_query.proofs.Going.{history_too_many}
 use Rattle.cc_query.proofs.Refusing.{handed_on}
 use Rattle.cc_query.proofs.Within.{block_within, last_numbered, line_within}
-use Rattle.cc_query.proofs.Steps.{in_cases, in_first, in_none, in_rest}
 
 pub gives_at : (s new expected : SessionView) (event given : Event) → new ≡ expected → event ≡ given → Gives s expected given → Gives s new event
 gives_at s new expected event given new_is event_is gives =

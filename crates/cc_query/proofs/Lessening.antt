@@ -7,12 +7,13 @@ use Rattle.cc_defs.specs.declared.log.EndWord.TheVariants as words
 use Rattle.cc_defs.specs.Clauses.{Literal}
 use Rattle.cc_kernel.specs.declared.kernel.Origin.TheVariants as origins
 use Rattle.cc_kernel.specs.Kernels.{Entry, KernelView, added, derived_count, is_given}
+use Rattle.cc_lists.specs.Horizons.{last_at}
 use Rattle.cc_query.specs.declared.phase.Part.{Part}
 use Rattle.cc_query.specs.declared.phase.Part.TheVariants as parts
 use Rattle.cc_query.specs.declared.phase.Phase.{Phase}
 use Rattle.cc_query.specs.declared.phase.Phase.TheVariants as phases
 use Rattle.cc_query.specs.Lefts.{left_at, left_behind, left_of}
-use Rattle.cc_query.specs.Sessions.{SessionView, last_at, opens_at}
+use Rattle.cc_query.specs.Sessions.{SessionView, opens_at}
 
 -- at the same horizon
 pub less_at : (s : SessionView) (row : List ℕ) (met : Bool) (old new : Phase) → s.phase ≡ old → left_at new < left_at old →

@@ -2,10 +2,8 @@
 use Rattle.std.proofs.Common.{◌≡◌, ◌∙◌, ℕ, ◌≤◌, suc, Bool, List, [], ◌∷◌, ◌++◌, length, map, Option, Some, None, option_map, Result, Ok, Err, Bor, refl, sym, subst, ap, arith}
 use Rattle.std.specs.Prelude.{Contains, IfOk, OnOk, not, sum}
 use Rattle.std.specs.List.{AllByRecursion}
-use Rattle.std.specs.Option.{option_or}
 use Rattle.cc_cdcl.specs.Solvers.{SolverView}
 use Rattle.cc_defs.specs.declared.lists.Key.{Key}
-use Rattle.cc_defs.specs.declared.refusal.Refusal.{Refusal}
 use Rattle.cc_defs.specs.ClauseLists.{positions_from}
 use Rattle.cc_defs.specs.Clauses.{Literal, IsOver}
 use Rattle.cc_defs.specs.Description.{Description}
@@ -14,19 +12,13 @@ use Rattle.cc_defs.specs.Runs.{Ask, key_row}
 use Rattle.cc_defs.specs.Sections.{Axioms}
 use Rattle.cc_form.specs.Forms.{TellsHistories, asked, form_of}
 use Rattle.cc_kernel.specs.Kernels.{Entry, KernelView, axiom_of, axioms_of, clauses_of, derived_count}
+use Rattle.cc_lists.specs.Horizons.{opening_refusal, refusal_at}
+use Rattle.cc_lists.specs.Subjects.{AreGoodAxioms}
 use Rattle.cc_query.specs.declared.phase.Part.{Part}
 use Rattle.cc_query.specs.declared.phase.Part.TheVariants as parts
-use Rattle.cc_query.specs.Accepted.{AreGoodAxioms}
 use Rattle.cc_query.specs.Parts.{axioms_at, is_conditions, query_of}
-use Rattle.cc_query.specs.Sessions.{Holds, IsWithin, RowsAreHistories, SessionView, opening_refusal, refusal_at}
+use Rattle.cc_query.specs.Sessions.{Holds, IsWithin, RowsAreHistories, SessionView}
 use Rattle.cc_query.proofs.Holding.{axioms_are}
-
-pub told_of : {X E : Type 0} (r : Result X E) (P : X → Type 0) (x : X) → IfOk r (λ form. form ≡ x) → IfOk r P → OnOk r (P x)
-told_of (Ok form) P x is holds = subst P is holds
-told_of (Err e) P x is holds = tt
-
-pub within_both : {X E : Type 0} (r : Result X E) (rules form : Option Refusal) → rules ≡ None → OnOk r (form ≡ None) → OnOk r (option_or rules form ≡ None)
-within_both r rules form none is = subst (λ (o : Option Refusal). OnOk r (option_or o form ≡ None)) (sym none) is
 
 -- the clauses on positions are among those of the kernel
 pub positions_there : (sizes others : List ℕ) (clauses arena : List (List Literal)) (kernel : KernelView) → sizes ≡ others → kernel.entries ≡ axioms_of arena → arena ≡ clauses →

@@ -11,10 +11,11 @@ use Rattle.cc_defs.specs.Histories.{IsListing, IsHistory, AreFirst}
 use Rattle.cc_defs.specs.Resolved.{Query}
 use Rattle.cc_defs.specs.Runs.{Ask, Step, Derive, Tell, Section, IsFairLine, IsTrueOf, TellsHistories, counted, counted_in, key_row, without_claim}
 use Rattle.cc_defs.specs.Sections.{Axioms, HasNoEmpty, row_denial}
+use Rattle.cc_lists.specs.Sections.{section_of, open_section, rows_in}
 use Rattle.cc_query.specs.declared.phase.Part.{Part}
 use Rattle.cc_query.specs.declared.phase.Part.TheVariants as parts
 use Rattle.cc_query.specs.Laws.{SearchLaws as Laws}
-use Rattle.cc_query.specs.Parts.{query_of, axioms_at, told_by, section_of, open_section, rows_in, MayAsk, TellsTrue}
+use Rattle.cc_query.specs.Parts.{query_of, axioms_at, told_by, MayAsk, TellsTrue}
 use Rattle.cc_query.specs.Sessions.{RowsAreHistories}
 use Rattle.cc_query.proofs.Told.{HasTold, nothing_told, line_told, next_told, all_told, row_is_of, open_fair, found_fair, empty_fair, spent_fair, listing_asked, listing_denied, listing_empty, listing_next, listing_on, listing_on_told, listing_open, listing_spent, listing_telling, looks, told_of_look}
 use Rattle.cc_query.proofs.Steps.{none_empty, rows_kept}

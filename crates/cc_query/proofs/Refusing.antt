@@ -1,31 +1,17 @@
 -- Which limit refuses a section that opens.
-use Rattle.std.proofs.Common.{◌≡◌, ℕ, ◌≤◌, Bool, Option, Some, None, Result, Ok, Err, length, sym, subst, arith}
+use Rattle.std.proofs.Common.{◌≡◌, Bool, Option, Result, Ok, Err, sym, subst}
 use Rattle.std.specs.Result.{IsErrAnd}
-use Rattle.std.specs.Prelude.{IfErr, nat_lt, not, if◌then◌else◌}
-use Rattle.std.specs.Option.{option_or}
-use Rattle.std.proofs.lemmas.Bool.Decides.{nat_tests}
+use Rattle.std.specs.Prelude.{IfErr, not}
 use Rattle.cc_defs.specs.declared.refusal.Fault.{Fault}
 use Rattle.cc_defs.specs.declared.refusal.LimitAt.TheVariants as limits
-use Rattle.cc_defs.specs.declared.refusal.Refusal.{Refusal}
 use Rattle.cc_defs.specs.declared.lists.Key.{Key}
 use Rattle.cc_defs.specs.Description.{Description}
-use Rattle.cc_defs.specs.Refusals.{IsRefusedBy, past}
+use Rattle.cc_defs.specs.Refusals.{IsRefusedBy}
 use Rattle.cc_defs.specs.Resolved.{Query}
-use Rattle.cc_defs.specs.TimedRules.{timed_rules}
+use Rattle.cc_lists.specs.Horizons.{opening_refusal, refusal_at}
 use Rattle.cc_query.specs.declared.phase.Part.{Part}
 use Rattle.cc_query.specs.Parts.{is_conditions}
-use Rattle.cc_query.specs.Sessions.{SessionView, opening_refusal, refusal_at}
-use Rattle.cc_theory.specs.Theories.{rules_refusal}
-
-not_past : (n : ℕ) → n ≤ 8000000 → (if nat_lt 8000000 n then Some (past limits.Rules) else None) ≡ None
-not_past n few = grind (arith, nat_tests)
-
-pub rules_within : (d : Description) (horizon : ℕ) → length (timed_rules d horizon) ≤ 8000000 → rules_refusal d horizon ≡ None
-rules_within d horizon few = not_past (length (timed_rules d horizon)) few
-
-pub refused_behind : {T : Type 0} (r : Result T Fault) (rules form : Option Refusal) → rules ≡ None → IfErr r (IsRefusedBy form) →
-    IfErr r (IsRefusedBy (option_or rules form))
-refused_behind r rules form none is = subst (λ (o : Option Refusal). IfErr r (IsRefusedBy (option_or o form))) (sym none) is
+use Rattle.cc_query.specs.Sessions.{SessionView}
 
 -- what is known of an error is so where it goes up
 pub errs : {T E : Type 0} (r : Result T E) (error : E) (P : E → Type 0) → IsErrAnd r (λ given. given ≡ error) → P error → IfErr r P

@@ -9,7 +9,7 @@ use Rattle.cc_defs.specs.Description.{Description}
 use Rattle.cc_defs.specs.Histories.{IsHistory, IsListing, AreAllOf, AreFirst, AreFirstOf}
 use Rattle.cc_defs.specs.Resolved.{Query}
 use Rattle.cc_defs.specs.Rows.{row_cmp, IsBelow}
-use Rattle.cc_query.proofs.Steps.{in_none, in_first, in_rest, in_cases}
+use Rattle.cc_lists.proofs.Members.{in_none, in_first, in_rest, in_cases}
 
 abbrev pub IsAscending : List (List ℕ) → Type 0
 IsAscending rows = IsStrictlySortedBy row_cmp rows

@@ -11,9 +11,10 @@ use Rattle.cc_defs.specs.Clauses.{Literal}
 use Rattle.cc_defs.specs.Description.{Description}
 use Rattle.cc_defs.specs.Resolved.{Query}
 use Rattle.cc_defs.specs.Runs.{Ask, Step, Derive, Tell, Section, Horizon, Run, AreDone, IsExhausted, IsFairRun, IsTrueOf, MayEndBehind, MayEndWithin, done_events, events_of, first_horizon, horizon_events, last_horizon, logged, optional, said_of, section_events, step_events, told, told_row}
+use Rattle.cc_lists.specs.Sections.{section_of, open_section, rows_in}
 use Rattle.cc_query.specs.declared.phase.Part.{Part}
 use Rattle.cc_query.specs.declared.phase.Part.TheVariants as parts
-use Rattle.cc_query.specs.Parts.{is_conditions, told_by, section_of, open_section, rows_in}
+use Rattle.cc_query.specs.Parts.{is_conditions, told_by}
 
 -- ---- the events of a section
 

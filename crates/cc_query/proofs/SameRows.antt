@@ -7,8 +7,8 @@ use Rattle.std.proofs.lemmas.Map.Keys.{sorted_tail}
 use Rattle.std.proofs.lemmas.Map.Views.{All-after_first}
 use Rattle.cc_defs.specs.Histories.{AreFirstOf}
 use Rattle.cc_defs.specs.Rows.{row_cmp, IsBelow}
+use Rattle.cc_lists.proofs.Members.{in_cases, in_none}
 use Rattle.cc_query.proofs.Rows.{below_trans, not_below_itself}
-use Rattle.cc_query.proofs.Steps.{in_cases, in_none}
 
 last_above : (rows : List (List ℕ)) (last : List ℕ) → IsStrictlySortedBy row_cmp (rows ++ last ∷ []) → (row : List ℕ) → Contains rows row → IsBelow row last
 last_above [] last ascend row there = absurd (in_none row there)

@@ -10,11 +10,11 @@ use Rattle.cc_defs.specs.declared.log.LogLine.{LogLine}
 use Rattle.cc_defs.specs.Description.{Description}
 use Rattle.cc_defs.specs.Resolved.{Query}
 use Rattle.cc_defs.specs.Runs.{Ask, Run, Section, Horizon, Histories, Conditions, Claim, Failure, AreDone, EndsWith, IsExhausted, IsFairRun, IsTrueOf, MayEnd, MayEndBehind, MayEndWithin, done_events, events_of, first_horizon, horizon_at, horizon_events, last_horizon, optional, said_of}
-use Rattle.cc_query.specs.Accepted.{lines_of}
+use Rattle.cc_lists.specs.Subjects.{lines_of}
+use Rattle.cc_lists.proofs.LinesRead.{IsHeaded, done_lines, horizon_headed, horizon_told, lines_append}
 use Rattle.cc_query.specs.Laws.{TextsTellRuns}
 use Rattle.cc_query.proofs.HorizonsAlike.{claims_apart, exhausted_ends, exhausted_same, horizons_alike, other_word}
 use Rattle.cc_query.proofs.HorizonsSame.{horizons_same}
-use Rattle.cc_query.proofs.LinesRead.{IsHeaded, done_lines, horizon_headed, horizon_told, lines_append}
 use Rattle.cc_query.proofs.TextSizes.{done_size, ending_events, ending_printed, said_printed, size, size_append}
 
 -- ---- the parts of a run

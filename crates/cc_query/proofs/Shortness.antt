@@ -1,23 +1,17 @@
 -- The lines of a session's log have short numbers.
-use Rattle.std.proofs.Common.{◌≡◌, ℕ, ◌+◌, ◌*◌, ◌-◌, ◌<◌, ◌≤◌, zero, suc, inl, inr, List, [], ◌∷◌, ◌++◌, length, map, Option, Some, None, Result, Ok, Err, refl, sym, subst, ap, arith}
-use Rattle.std.specs.Prelude.{All, Contains, IfSome, OnOk, slice_get, sum}
+use Rattle.std.proofs.Common.{◌≡◌, ℕ, ◌+◌, ◌*◌, ◌-◌, ◌<◌, ◌≤◌, zero, suc, inl, inr, List, [], ◌∷◌, ◌++◌, length, map, Some, refl, sym, subst, ap, arith}
+use Rattle.std.specs.Prelude.{Contains, slice_get, sum}
 use Rattle.std.specs.List.{AllByRecursion}
-use Rattle.std.proofs.lemmas.List.Elements.{All-head, All-tail}
 use Rattle.std.proofs.lemmas.List.Sums.{sum_by-cons}
 use Rattle.cc_cdcl.specs.Solvers.{SolverView, AddsDerived}
-use Rattle.cc_defs.specs.declared.lists.Key.{Key}
 use Rattle.cc_defs.specs.declared.log.LogLine.TheVariants as lines
-use Rattle.cc_defs.specs.Clauses.{Literal, IsClause, IsOver, IsResolvent, Reaches, ReachesFrom}
-use Rattle.cc_defs.specs.GroundLaws.{PlainGroundQuery}
+use Rattle.cc_defs.specs.Clauses.{Literal, IsOver, IsResolvent, Reaches, ReachesFrom}
 use Rattle.cc_defs.specs.LogTexts.{IsFormed, IsOdd, IsShort, IsShortLiteral}
 use Rattle.cc_defs.specs.Rows.{IsRow}
 use Rattle.cc_defs.specs.Runs.{Ask}
-use Rattle.cc_defs.specs.Sections.{Axioms, denial_from}
-use Rattle.cc_defs.specs.Signatures.{Signature}
 use Rattle.cc_kernel.specs.Kernels.{Entry, KernelView, clauses_of}
-use Rattle.cc_query.specs.Accepted.{AreGoodAxioms}
-use Rattle.cc_query.specs.Sessions.{Fits, IsWithin, last_at}
-use Rattle.cc_query.proofs.Steps.{in_cases, in_first, in_none, in_rest}
+use Rattle.cc_lists.proofs.Members.{in_cases, in_first, in_none, in_rest}
+use Rattle.cc_query.specs.Sessions.{IsWithin}
 
 -- ---- clauses over variables
 
@@ -134,32 +128,3 @@ row_short variables (size ∷ sizes) (index ∷ row) low few is =
     let all : sum (size ∷ sizes) ≡ size + sum sizes = sum_by-cons (λ (n : ℕ). n) size sizes in
     let below : index < size = is.0 in
     (omega arith, row_short variables sizes row low (omega arith) is.1)
-
-pub denial_over : (variables first : ℕ) (sizes row : List ℕ) → 0 < first → first + sum sizes ≤ variables + 1 → IsRow sizes row → IsOver variables (denial_from first sizes row)
-denial_over variables first [] row some most is = tt
-denial_over variables first (size ∷ sizes) [] some most is = tt
-denial_over variables first (size ∷ sizes) (index ∷ row) some most is =
-    let below : index < size = is.0 in
-    let all : sum (size ∷ sizes) ≡ size + sum sizes = sum_by-cons (λ (n : ℕ). n) size sizes in
-    (omega arith, omega arith, denial_over variables (first + size) sizes row (omega arith) (omega arith) is.1)
-
--- ---- horizons
-
-pub last_low : (signature : Signature) (query : PlainGroundQuery) (after : Option Key) → query.hi ≤ 1000 → IfSome after (Fits signature query) → last_at query after ≤ 1000
-last_low signature query None most fits = most
-last_low signature query (Some key) most fits = let within = fits.most in omega arith
-
--- ---- axioms
-
-each_of : {X : Type 0} (P : X → Type 0) (xs : List X) → All P xs → AllByRecursion P xs
-each_of P [] all = tt
-each_of P (x ∷ xs) all = (All-head P x xs all, each_of P xs (All-tail P x xs all))
-
-pub good_axioms : {S E : Type 0} (r : Result S E) (form : Axioms) (clauses : List (List Literal)) (variables : ℕ) → clauses ≡ form.clauses →
-    variables ≡ form.variables → All IsClause clauses → All (IsOver form.variables) clauses → sum form.sizes + 1 ≤ variables → OnOk r (AreGoodAxioms form)
-good_axioms (Ok value) form clauses variables clauses_are variables_are each over least = record {
-  clauses = subst (λ (l : List (List Literal)). AllByRecursion IsClause l) clauses_are (each_of IsClause clauses each);
-  over = subst (λ (l : List (List Literal)). AllByRecursion (IsOver form.variables) l) clauses_are (each_of (IsOver form.variables) clauses over);
-  positions = omega arith;
-}
-good_axioms (Err error) form clauses variables clauses_are variables_are each over least = tt

@@ -8,10 +8,10 @@ use Rattle.cc_defs.specs.Clauses.{Literal, IsOver}
 use Rattle.cc_defs.specs.Rows.{IsRow}
 use Rattle.cc_defs.specs.Runs.{Step, Derive, Tell, AreFairSteps, IsFairLine, counted_in}
 use Rattle.cc_defs.specs.Sections.{row_denial}
+use Rattle.cc_lists.specs.Sections.{rows_in}
+use Rattle.cc_lists.proofs.AcceptedSections.{reached, over_resolved, denial_over}
+use Rattle.cc_lists.proofs.Members.{all_append}
 use Rattle.cc_query.specs.Laws.{SpentBudgetsAreSmall}
-use Rattle.cc_query.specs.Parts.{rows_in}
-use Rattle.cc_query.proofs.AcceptedLines.{all_append}
-use Rattle.cc_query.proofs.AcceptedSections.{reached, over_resolved, denial_over}
 
 abbrev line_of : List ℕ → Step → Line
 line_of sizes (Derive clause chain) = Derived clause

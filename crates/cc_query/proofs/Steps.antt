@@ -1,5 +1,5 @@
 -- The steps of a section, one after another: what they add, and which assignments meet it.
-use Rattle.std.proofs.Common.{◌≡◌, ◌∙◌, ℕ, ◌+◌, ◌-◌, ◌⊎◌, inl, inr, zero, suc, Bool, List, [], ◌∷◌, ◌++◌, map, Some, refl, sym, subst, arith, append_assoc, append-nil}
+use Rattle.std.proofs.Common.{◌≡◌, ◌∙◌, ℕ, ◌+◌, ◌-◌, inl, inr, zero, suc, Bool, List, [], ◌∷◌, ◌++◌, map, Some, refl, sym, subst, arith, append_assoc, append-nil}
 use Rattle.std.specs.Prelude.{slice_get, IsTrue, Contains}
 use Rattle.std.proofs.lemmas.List.Elements.{Contains-append_left, Contains-append_right, Contains-append_cases}
 use Rattle.std.proofs.lemmas.Grind.{flat_map-append}
@@ -10,22 +10,9 @@ use Rattle.cc_defs.specs.Clauses.{Literal, IsNumbered, ReachesFrom, Reaches, mee
 use Rattle.cc_defs.specs.Rows.{IsRow}
 use Rattle.cc_defs.specs.Runs.{Step, Derive, Tell, AreFairSteps, IsFairLine, counted, counted_in, row_told}
 use Rattle.cc_defs.specs.Sections.{HasNoEmpty, row_denial}
-use Rattle.cc_query.specs.Parts.{rows_in, clause_added}
-
--- ---- members
-
-pub in_none : {A : Type 0} (x : A) → Contains [] x → ⊥
-in_none x (k, below, is) = omega arith
-
-pub in_first : {A : Type 0} (x : A) (xs : List A) → Contains (x ∷ xs) x
-in_first x xs = (zero, omega arith, refl)
-
-pub in_rest : {A : Type 0} (y x : A) (xs : List A) → Contains xs x → Contains (y ∷ xs) x
-in_rest y x xs (k, below, is) = (suc k, omega arith, is)
-
-pub in_cases : {A : Type 0} (y x : A) (xs : List A) → Contains (y ∷ xs) x → (y ≡ x) ⊎ Contains xs x
-in_cases y x xs (zero, below, is) = inl is
-in_cases y x xs (suc k, below, is) = inr (k, omega arith, is)
+use Rattle.cc_lists.specs.Sections.{rows_in}
+use Rattle.cc_lists.proofs.Members.{in_cases, in_first, in_none, in_rest}
+use Rattle.cc_query.specs.Parts.{clause_added}
 
 -- ---- one more step
 

@@ -10,7 +10,7 @@ use Rattle.cc_defs.specs.declared.log.LogLine.TheVariants as lines
 use Rattle.cc_defs.specs.Description.{Description}
 use Rattle.cc_defs.specs.Events.{out_text, told_text}
 use Rattle.cc_defs.specs.Runs.{Ask, Step, Section, Horizon, Histories, Conditions, Claim, Failure, IsExhausted, denied_rows, optional, told, told_row, logged, step_events, section_events, horizon_events, said_of, done_events}
-use Rattle.cc_query.proofs.LinesRead.{IsAlike}
+use Rattle.cc_lists.proofs.LinesRead.{IsAlike}
 
 abbrev pub size : Description → List Told → ℕ
 size d told = length (out_text d told)

@@ -12,10 +12,11 @@ use Rattle.cc_defs.specs.Resolved.{Query}
 use Rattle.cc_defs.specs.Rows.{IsRow}
 use Rattle.cc_defs.specs.Runs.{Step, Derive, Tell, AreFairSteps, IsFairLine, IsFairSection, LooksForOne, TellsRows, counted, counted_in}
 use Rattle.cc_defs.specs.Sections.{Axioms, HasNoEmpty, row_denial}
+use Rattle.cc_lists.specs.Sections.{rows_in, section_of, open_section}
+use Rattle.cc_lists.proofs.Members.{in_none}
 use Rattle.cc_query.specs.Laws.{SearchLaws as Laws}
-use Rattle.cc_query.specs.Parts.{rows_in, section_of, open_section}
 use Rattle.cc_query.proofs.Rows.{first_front, first_none, first_more, first_are_all}
-use Rattle.cc_query.proofs.Steps.{in_none, fair_line, fair_tell, counted_more, rows_more, rows_kept, row_before, row_not_told, row_behind, none_empty}
+use Rattle.cc_query.proofs.Steps.{fair_line, fair_tell, counted_more, rows_more, rows_kept, row_before, row_not_told, row_behind, none_empty}
 
 -- Fair steps within the budget, by which the first rows of a kind are told; these clauses are there behind them.
 pub record HasTold (Is : List ℕ → Type 0) (form : Axioms) (budget : ℕ) (steps : List Step) (clauses : List (List Literal)) : Type 0 where

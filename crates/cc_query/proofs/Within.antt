@@ -12,8 +12,9 @@ use Rattle.cc_defs.specs.Runs.{Ask}
 use Rattle.cc_defs.specs.Sections.{row_denial}
 use Rattle.cc_kernel.specs.declared.kernel.Origin.TheVariants as origins
 use Rattle.cc_kernel.specs.Kernels.{Entry, KernelView, added, clauses_of, derived_count, is_given}
+use Rattle.cc_clauses.proofs.Denials.{denial_over}
 use Rattle.cc_query.specs.Sessions.{IsWithin}
-use Rattle.cc_query.proofs.Shortness.{denial_over, line_over, over_more}
+use Rattle.cc_query.proofs.Shortness.{line_over, over_more}
 
 counted_one : (entries : List Entry) (entry : Entry) → derived_count (entries ++ entry ∷ []) ≡ derived_count entries + derived_count (entry ∷ [])
 counted_one entries entry = sum_by-append (λ (e : Entry). cond (not (is_given e)) 1 0) entries (entry ∷ [])

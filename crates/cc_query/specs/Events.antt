@@ -3,8 +3,9 @@ use Rattle.std.specs.Prelude.{◌≢◌, ◌<◌}
 use Rattle.cc_defs.specs.declared.event.Ending.{Ending}
 use Rattle.cc_defs.specs.declared.event.Event.{Event}
 use Rattle.cc_defs.specs.declared.event.Event.TheVariants as events
+use Rattle.cc_lists.specs.Subjects.{IsFewEvent, IsShortEvent}
 use Rattle.cc_query.specs.Lefts.{left_of}
-use Rattle.cc_query.specs.Sessions.{SessionView, HasMore, IsFewEvent, IsSame, IsShortEvent, OpensGood, OpensWithin, StandsOpened, Tells}
+use Rattle.cc_query.specs.Sessions.{SessionView, HasMore, IsSame, OpensGood, OpensWithin, StandsOpened, Tells}
 
 -- It comes behind those that were told, for the same query; where it is a section's heading, the section is within its limits,
 -- its axioms are good, and it is searched from now on; a history is not past their limit; a line has short numbers; less may still come; and unless it is the

@@ -13,7 +13,7 @@ use Rattle.cc_defs.specs.Resolved.{Query}
 use Rattle.cc_defs.specs.Rows.{IsRow}
 use Rattle.cc_defs.specs.Runs.{Ask, EndsWith, Histories, IsFairRun, IsFairSection, Run, Section, denied_rows, events_of, first_horizon, horizon_at, key_row, rows_of}
 use Rattle.cc_defs.specs.Sections.{Axioms}
-use Rattle.cc_query.specs.Accepted.{lines_of}
+use Rattle.cc_lists.specs.Subjects.{lines_of}
 
 -- Where histories were told up to one, the listing is these, and then the listing after that one.
 abbrev pub ListingsResume : Type 0

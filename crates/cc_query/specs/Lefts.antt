@@ -2,11 +2,12 @@
 use Rattle.std.specs.Prelude.{ℕ, ◌+◌, ◌-◌, ◌*◌}
 use Rattle.cc_defs.specs.Limits.{most_histories}
 use Rattle.cc_kernel.specs.Kernels.{derived_count}
+use Rattle.cc_lists.specs.Horizons.{last_at}
 use Rattle.cc_query.specs.declared.phase.Part.{Part}
 use Rattle.cc_query.specs.declared.phase.Part.TheVariants as parts
 use Rattle.cc_query.specs.declared.phase.Phase.{Phase}
 use Rattle.cc_query.specs.declared.phase.Phase.TheVariants as phases
-use Rattle.cc_query.specs.Sessions.{SessionView, last_at}
+use Rattle.cc_query.specs.Sessions.{SessionView}
 
 -- Of a section: each derived clause takes one, each history and its denial two.
 abbrev pub left_in_section : (derived listed : ℕ) → ℕ

@@ -1,13 +1,11 @@
 -- The sections of a horizon: what each searches for, and what it has told so far.
-use Rattle.std.specs.Prelude.{ℕ, Bool, true, false, List, ◌++◌, map, flat_map, Option, None, IsSome, IsNone}
-use Rattle.cc_defs.specs.declared.log.EndWord.{EndWord}
+use Rattle.std.specs.Prelude.{ℕ, Bool, true, false, List, ◌++◌, map, IsSome, IsNone}
 use Rattle.cc_defs.specs.declared.log.EndWord.TheVariants as words
-use Rattle.cc_defs.specs.declared.log.LogLine.{LogLine}
 use Rattle.cc_defs.specs.declared.log.LogLine.TheVariants as lines
 use Rattle.cc_defs.specs.Clauses.{Literal}
 use Rattle.cc_defs.specs.Description.{Description}
 use Rattle.cc_defs.specs.Resolved.{Query}
-use Rattle.cc_defs.specs.Runs.{Ask, Step, Derive, Tell, Section, Horizon, Histories, Conditions, Claim, TellsHistories, OfConditions, OfClaim, EndsWith, axioms_of, optional, row_told, without_claim}
+use Rattle.cc_defs.specs.Runs.{Ask, Step, Derive, Tell, Section, Horizon, Histories, Conditions, Claim, TellsHistories, OfConditions, OfClaim, EndsWith, axioms_of, without_claim}
 use Rattle.cc_defs.specs.Sections.{Axioms, row_denial}
 use Rattle.cc_query.specs.declared.phase.Part.{Part}
 use Rattle.cc_query.specs.declared.phase.Part.TheVariants as parts
@@ -33,17 +31,6 @@ told_by parts.Histories before section = Histories section
 told_by parts.Conditions before section = Conditions section
 told_by parts.Claim before section = Claim before section
 
-abbrev pub section_of : List Step → Option (List ℕ) → Option EndWord → Section
-section_of steps last word = record { steps = steps; last = last; word = word }
-
--- one that has not ended
-abbrev pub open_section : List Step → Section
-open_section steps = section_of steps None None
-
--- the rows that steps tell
-abbrev pub rows_in : List Step → List (List ℕ)
-rows_in steps = flat_map row_told steps
-
 -- the clause that a step adds
 abbrev pub clause_added : List ℕ → Step → List Literal
 clause_added sizes (Derive clause chain) = clause
@@ -64,13 +51,3 @@ abbrev pub TellsTrue : Description → Query → Ask → ℕ → Part → Sectio
 TellsTrue d q ask horizon parts.Histories section = TellsHistories d q ask horizon section
 TellsTrue d q ask horizon parts.Conditions section = OfConditions d q ask horizon section
 TellsTrue d q ask horizon parts.Claim section = OfClaim d q ask horizon section
-
--- ---- the lines of a section
-
-abbrev pub step_line : Step → LogLine
-step_line (Derive clause chain) = lines.Derived clause chain
-step_line (Tell row) = lines.Block row
-
--- the lines of a section, its heading aside
-abbrev pub section_lines : Section → List LogLine
-section_lines section = map step_line section.steps ++ map lines.End (optional section.word)

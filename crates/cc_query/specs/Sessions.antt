@@ -1,8 +1,7 @@
 -- What a session holds, and what the events so far leave it to hold.
-use Rattle.std.specs.Prelude.{◌≡◌, ◌≢◌, ℕ, ◌+◌, ◌≤◌, ◌⊎◌, Bool, true, false, not, if◌then◌else◌, IfSome, List, [], ◌∷◌, ◌++◌, map, length, sum, Option, Some, None, IsSome, IsNone, Contains}
+use Rattle.std.specs.Prelude.{◌≡◌, ◌≢◌, ℕ, ◌+◌, ◌≤◌, ◌⊎◌, Bool, true, false, if◌then◌else◌, IfSome, List, [], ◌∷◌, ◌++◌, map, length, sum, Option, Some, None, IsSome, IsNone, Contains}
 use Rattle.std.specs.List.{AllByRecursion, list_any}
 use Rattle.cc_arena.specs.declared.ground_laws.GroundLaw.{GroundLaw}
-use Rattle.cc_query.specs.Accepted.{AreGoodAxioms}
 use Rattle.cc_cdcl.specs.Solvers.{SolverView, Found, Ready}
 use Rattle.cc_clauses.specs.RowsOf.{IsLeastRowOf}
 use Rattle.cc_defs.specs.declared.event.Ending.{Ending}
@@ -12,34 +11,34 @@ use Rattle.cc_defs.specs.declared.event.Event.TheVariants as events
 use Rattle.cc_defs.specs.declared.event.Told.{Told}
 use Rattle.cc_defs.specs.declared.log.EndWord.{EndWord}
 use Rattle.cc_defs.specs.declared.log.EndWord.TheVariants as words
-use Rattle.cc_defs.specs.declared.lists.Key.{Key}
 use Rattle.cc_defs.specs.declared.log.LogLine.TheVariants as lines
 use Rattle.cc_defs.specs.declared.refusal.Fault.{Fault}
 use Rattle.cc_defs.specs.declared.refusal.Fault.TheVariants as faults
 use Rattle.cc_defs.specs.declared.refusal.LimitAt.TheVariants as limits
 use Rattle.cc_defs.specs.declared.refusal.Refusal.{Refusal}
 use Rattle.cc_defs.specs.Clauses.{IsOver}
-use Rattle.cc_defs.specs.Description.{Description, sizes_at}
+use Rattle.cc_defs.specs.Description.{Description}
 use Rattle.cc_defs.specs.GroundLaws.{PlainGroundQuery, StandsForQuery}
 use Rattle.cc_defs.specs.Histories.{AreFirst}
 use Rattle.cc_defs.specs.Limits.{most_clauses, most_histories, most_steps, most_variables}
-use Rattle.cc_defs.specs.LogTexts.{IsFormed}
 use Rattle.cc_defs.specs.Refusals.{past}
 use Rattle.cc_defs.specs.Resolved.{Query}
 use Rattle.cc_defs.specs.Rows.{IsRow}
 use Rattle.cc_defs.specs.Runs.{Ask, Step, Derive, Tell, Section, Horizon, Histories, Conditions, Claim, Failure, Run, EndsWith, IsFairRun, axioms_of, events_of, first_horizon, horizon_at, key_row, rows_of}
 use Rattle.cc_defs.specs.Sections.{Axioms, row_denial}
 use Rattle.cc_defs.specs.Signatures.{Signature}
-use Rattle.cc_form.specs.Forms.{TellsHistories as ClausesTell, section_refusal}
-use Rattle.cc_form.specs.Places.{position_sizes}
+use Rattle.cc_form.specs.Forms.{TellsHistories as ClausesTell}
 use Rattle.cc_form.specs.Queries.{IsQueryAt}
 use Rattle.cc_kernel.specs.declared.kernel.Origin.TheVariants as origins
 use Rattle.cc_kernel.specs.Kernels.{Entry, added, axiom_of, clauses_of, derived_count}
+use Rattle.cc_lists.specs.Horizons.{Fits, first_at, last_at, opening_refusal}
+use Rattle.cc_lists.specs.Sections.{section_of, open_section, rows_in}
+use Rattle.cc_lists.specs.Subjects.{AreGoodAxioms, with_row}
 use Rattle.cc_query.specs.declared.phase.Part.{Part}
 use Rattle.cc_query.specs.declared.phase.Part.TheVariants as parts
 use Rattle.cc_query.specs.declared.phase.Phase.{Phase}
 use Rattle.cc_query.specs.declared.phase.Phase.TheVariants as phases
-use Rattle.cc_query.specs.Parts.{query_of, axioms_at, is_conditions, told_by, section_of, open_section, rows_in, clauses_behind}
+use Rattle.cc_query.specs.Parts.{query_of, axioms_at, is_conditions, told_by, clauses_behind}
 use Rattle.cc_theory.specs.Theories.{AreLawsFor, AreLawsOf}
 
 -- The signature, the laws, the query and what is asked; the horizon that is tried, whether a path met the conditions of a query
@@ -62,16 +61,6 @@ HasMore session = session.phase ≢ phases.Ended
 pub record IsSessionOf (session : SessionView) (d : Description) (q : Query) : Type 0 where
   pub laws : AreLawsOf session.signature session.laws d
   pub query : StandsForQuery session.query d q
-
--- an event, with the row where it is a history or a counterexample
-abbrev pub with_row : Event → List ℕ → Told
-with_row (events.Log line) row = record { event = events.Log line; row = None }
-with_row (events.NoHistory horizon) row = record { event = events.NoHistory horizon; row = None }
-with_row (events.History horizon number) row = record { event = events.History horizon number; row = Some row }
-with_row (events.NoConditions horizon) row = record { event = events.NoConditions horizon; row = None }
-with_row (events.Holds horizon) row = record { event = events.Holds horizon; row = None }
-with_row (events.Counterexample horizon) row = record { event = events.Counterexample horizon; row = Some row }
-with_row (events.Ended ending) row = record { event = events.Ended ending; row = None }
 
 -- ---- a kernel and the section that made it
 
@@ -164,17 +153,6 @@ abbrev pub After : Description → Query → SessionView → List Told → Type 
 After d q session given =
     (run : Run) × IsFairRun d q session.ask run × (given ≡ events_of (first_horizon q session.ask.after) run) × StandsBehind d q session run
 
--- ---- the horizons
-
--- the first horizon that is tried, and the last one
-abbrev pub first_at : PlainGroundQuery → Option Key → ℕ
-first_at query None = query.lo
-first_at query (Some key) = key.horizon
-
-abbrev pub last_at : PlainGroundQuery → Option Key → ℕ
-last_at query None = query.hi
-last_at query (Some key) = key.horizon
-
 -- ---- what a call of a session says
 
 -- it searches for the same
@@ -188,13 +166,6 @@ pub record IsSame (old new : SessionView) : Type 0 where
 abbrev pub Tells : SessionView → SessionView → Event → Type 0
 Tells old new event =
     (d : Description) (q : Query) (given : List Told) → IsSessionOf old d q → After d q old given → After d q new (given ++ with_row event new.row ∷ [])
-
--- the first limit that the rules or the clause list of a section pass
-abbrev pub refusal_at : Description → Query → ℕ → (with_claim : Bool) → Option Key → Option Refusal
-refusal_at d q horizon with_claim key = section_refusal d q horizon with_claim key
-
-abbrev pub opening_refusal : Description → Query → Ask → ℕ → (conditions : Bool) → Option Refusal
-opening_refusal d q ask horizon conditions = refusal_at d q horizon (not conditions) ask.after
 
 -- So many histories were told at the horizon of a run as its limit says, their section has not ended, and there is one more.
 pub record TellsTooMany (d : Description) (q : Query) (ask : Ask) (run : Run) : Type 0 where
@@ -257,20 +228,6 @@ IsOpened session conditions horizon =
 abbrev pub StandsOpened : SessionView → Event → Type 0
 StandsOpened session event = (conditions : Bool) (horizon : ℕ) → event ≡ events.Log (lines.Section conditions horizon) → IsOpened session conditions horizon
 
--- a history that is told is not past the number that may be told at a horizon
-abbrev pub IsFewEvent : Event → Type 0
-IsFewEvent event = (horizon number : ℕ) → event ≡ events.History horizon number → number ≤ most_histories
-
--- the numbers of a line of the log that is told have at most nine digits, and its chain has a pivot between each two clauses
-abbrev pub IsShortEvent : Event → Type 0
-IsShortEvent (events.Log line) = IsFormed line
-IsShortEvent (events.NoHistory horizon) = Unit {0}
-IsShortEvent (events.History horizon number) = Unit {0}
-IsShortEvent (events.NoConditions horizon) = Unit {0}
-IsShortEvent (events.Holds horizon) = Unit {0}
-IsShortEvent (events.Counterexample horizon) = Unit {0}
-IsShortEvent (events.Ended ending) = Unit {0}
-
 -- the ending behind the last horizon
 abbrev pub ending_behind : (met : Bool) → Part → Ending
 ending_behind met parts.Histories = endings.NoHistory
@@ -283,20 +240,6 @@ pub record IsBlocked (old new : SolverView) : Type 0 where
   pub kernel : (row : List ℕ) → old.standing ≡ Found row → new.kernel ≡ added old.kernel (row_denial old.sizes row) origins.Block
 
 -- ---- what is always true of a session
-
--- a key is a row of one of the query's horizons, and the query has no claim
-pub record Fits (signature : Signature) (query : PlainGroundQuery) (key : Key) : Type 0 where
-  pub least : query.lo ≤ key.horizon
-  pub most : key.horizon ≤ query.hi
-  pub claim : IsNone query.claim
-  pub row : IsRow (position_sizes signature key.horizon) key.row
-
--- the same of a description with this signature
-pub record FitsIn (d : Description) (query : PlainGroundQuery) (key : Key) : Type 0 where
-  pub least : query.lo ≤ key.horizon
-  pub most : key.horizon ≤ query.hi
-  pub claim : IsNone query.claim
-  pub row : IsRow (sizes_at d key.horizon) key.row
 
 -- what is asked can be searched for
 pub record IsAskable (signature : Signature) (laws : List GroundLaw) (query : PlainGroundQuery) (ask : Ask) : Type 0 where

@@ -17,19 +17,19 @@ ghost use Rattle.cc_defs.specs.declared.log.EndWord.TheVariants as words;
 ghost use Rattle.cc_defs.specs.declared.log.LogLine.TheVariants as lines;
 ghost use Rattle.cc_form.specs.Queries.{IsQueryAt};
 ghost use Rattle.cc_kernel.specs.Kernels.{derived_count};
+ghost use Rattle.cc_lists.specs.Horizons.{Fits, first_at, last_at, opening_refusal};
+ghost use Rattle.cc_lists.specs.Subjects.{AreGoodAxioms, IsFewEvent, IsShortEvent, with_row};
 ghost use Rattle.cc_query.specs.Parts.{axioms_at, is_conditions};
 ghost use Rattle.cc_defs.specs.declared.event.Ending.{Ending as EndingSeen};
 ghost use Rattle.cc_query.specs.declared.phase.Phase.{Phase as PhaseSeen};
-ghost use Rattle.cc_query.specs.Accepted.{AreGoodAxioms};
 ghost use Rattle.cc_query.specs.Events.{Gives};
 ghost use Rattle.cc_query.specs.Lefts.{left_of};
-ghost use Rattle.cc_query.specs.Sessions.{After, Fits, HasFound, HasMore, Holds, IsReady, IsFewEvent, IsRightFault, IsOpened, IsSame, IsSessionOf, IsShortEvent, IsWithin, OpensGood, OpensWithin, RowsAreHistories, SessionView, StandsOpened, Tells, ending_behind, first_at, last_at, opening_refusal, opens_at, with_row};
+ghost use Rattle.cc_query.specs.Sessions.{After, HasFound, HasMore, Holds, IsReady, IsRightFault, IsOpened, IsSame, IsSessionOf, IsWithin, OpensGood, OpensWithin, RowsAreHistories, SessionView, StandsOpened, Tells, ending_behind, opens_at};
 ghost use Rattle.cc_query.specs.declared.phase.Part.TheVariants as parts;
 ghost use Rattle.cc_query.specs.declared.phase.Phase.TheVariants as phases;
 ghost use Rattle.cc_theory.specs.Theories.{AreLawsFor};
 
 use crate::ask::Ask;
-use crate::lists::Lists;
 use crate::opening::{denies_claim, solver_of};
 use crate::phase::{Part, Phase};
 use crate::shared::{budget_of, derived_line, is_asked, is_refuted};
@@ -39,6 +39,7 @@ use cc_cdcl::{Solver, Step};
 use cc_defs::{
     EndWord, Ending, Event, Fault, Key, LimitAt, LogLine, OutOfMemory, Refusal, Row, Sig,
 };
+use cc_lists::Lists;
 use std::alloc::Global;
 use std::marker::Model;
 use std::mem;

@@ -2,8 +2,8 @@
 ghost use Rattle.cc_query.specs.Accepted.{WrittenLogsAreAccepted};
 ghost use Rattle.cc_query.specs.Laws.{ListingsJoin, ListingsResume, SearchLaws, SpentBudgetsAreSmall, TextsTellRuns};
 
-use cc_cdcl::theorems::{denial_denies, denial_leaves_others, earned_lines_are_few};
-use cc_clauses::theorems::resolvents_are_sound;
+use cc_cdcl::theorems::earned_lines_are_few;
+use cc_clauses::theorems::{denial_denies, denial_leaves_others, resolvents_are_sound};
 
 /// A listing that stopped at its asked number, and the one that goes on after its last key, make up the whole.
 pub fn listings_resume()

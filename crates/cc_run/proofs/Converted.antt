@@ -34,10 +34,9 @@ use Rattle.cc_judge.specs.Judging.{IsVerdictWithin, limit_of}
 use Rattle.cc_ports.specs.declared.desk.To.TheVariants as outputs
 use Rattle.cc_ports.specs.Moments.{Moment}
 use Rattle.cc_print.specs.Verdicts.{verdict_line}
-use Rattle.cc_query.specs.Accepted.{subject_of}
-use Rattle.cc_query.specs.Sessions.{Fits, refusal_at}
-use Rattle.cc_query.proofs.Giving.{last_is}
-use Rattle.cc_query.proofs.Shortness.{last_low}
+use Rattle.cc_lists.specs.Horizons.{Fits, refusal_at}
+use Rattle.cc_lists.specs.Subjects.{subject_of}
+use Rattle.cc_lists.proofs.Ranges.{last_is, last_low}
 use Rattle.cc_list.specs.Asking.{AreOf, AreSearchable}
 use Rattle.cc_run.specs.Converted.{AreLeft, HasLeft, HasOpened, IsJudged, converted_by, other_said}
 use Rattle.cc_list.specs.Promises.{Keeps, log_asked}

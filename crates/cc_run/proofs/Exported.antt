@@ -36,7 +36,7 @@ use Rattle.cc_list.proofs.Described.{IsRead}
 use Rattle.cc_ports.specs.Contents.{Contents}
 use Rattle.cc_ports.specs.declared.desk.To.TheVariants as outputs
 use Rattle.cc_ports.specs.Moments.{Moment}
-use Rattle.cc_query.specs.Sessions.{refusal_at}
+use Rattle.cc_lists.specs.Horizons.{refusal_at}
 use Rattle.cc_run.specs.Exported.{IsAskedAt, IsExportFault, IsExported, tried_refusal}
 use Rattle.cc_run.specs.Modes.Exporting.{Exports, MayEndExporting, NamesHorizon, RefusesExporting, export_refusal, exporting_promise, horizon_refusal, is_outside}
 use Rattle.cc_list.specs.Promises.{Keeps}

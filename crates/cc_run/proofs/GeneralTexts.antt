@@ -16,7 +16,7 @@ use Rattle.cc_general.specs.GeneralRuns.{GeneralEnding, Complete, Asked, NoneAtA
 use Rattle.cc_general.specs.Accepted.{IsUnspentEnding}
 use Rattle.cc_general.specs.Generals.{GoesOnBy, IsSpentWith}
 use Rattle.cc_general.specs.GeneralTold.{ending_of, general_header, general_log, general_told, none_told, shown_text, shown_told, spent_text}
-use Rattle.cc_query.specs.Parts.{section_lines}
+use Rattle.cc_lists.specs.Sections.{section_lines}
 use Rattle.cc_run.specs.Generals.{generally_given}
 use Rattle.cc_run.specs.Modes.Generally.{EndsGenerally}
 use Rattle.cc_tell_modes.specs.GeneralTexts.{general_status_behind, given_generally, heading_for, lines_text}

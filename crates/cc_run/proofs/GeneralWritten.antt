@@ -13,11 +13,10 @@ use Rattle.cc_general.specs.declared.turn.GeneralTurn.TheVariants as events
 use Rattle.cc_general.specs.Accepted.{IsWritableShown}
 use Rattle.cc_general.specs.GeneralRuns.{GeneralRun, IsFairGeneral, IsShownRightly, Shown, general_horizon, rows_shown}
 use Rattle.cc_general.specs.Generals.{GoesOnBy, IsGoodEvent, IsWritable}
-use Rattle.cc_query.specs.Accepted.{AreGoodAxioms}
-use Rattle.cc_query.specs.Parts.{section_lines}
-use Rattle.cc_query.proofs.AcceptedLines.{all_append, all_behind}
+use Rattle.cc_lists.specs.Sections.{section_lines}
+use Rattle.cc_lists.specs.Subjects.{AreGoodAxioms}
+use Rattle.cc_lists.proofs.Members.{all_append, all_behind, in_first}
 use Rattle.cc_query.proofs.Shortness.{row_short}
-use Rattle.cc_query.proofs.Steps.{in_first}
 use Rattle.cc_rivals.specs.Wides.{wide_rules_refusal}
 use Rattle.cc_run.specs.Generals.{IsWritableGeneral}
 use Rattle.cc_wide.specs.WideLaws.{WideDescription}

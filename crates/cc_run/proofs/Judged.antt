@@ -14,7 +14,7 @@ use Rattle.cc_defs.specs.Resolved.{Query}
 use Rattle.cc_describe.specs.Places.{Files}
 use Rattle.cc_judge.specs.Judging.{BlocksHistories, IsJudgeFault, IsVerdictWithin}
 use Rattle.cc_ports.specs.Contents.{Contents}
-use Rattle.cc_query.specs.Accepted.{subject_of}
+use Rattle.cc_lists.specs.Subjects.{subject_of}
 use Rattle.cc_run.specs.Modes.Checking.{Checks, MayEndChecking, verdict_status, NamesLog, RefusesChecking, RefusesLog, checking_promise}
 use Rattle.cc_run.specs.Modes.Converting.{converting_promise}
 use Rattle.cc_list.specs.Promises.{Keeps, Promise}

@@ -16,7 +16,7 @@ use Rattle.cc_judge.specs.Single.{subject_over}
 use Rattle.cc_ports.specs.declared.desk.To.TheVariants as outputs
 use Rattle.cc_ports.specs.Moments.{Moment}
 use Rattle.cc_print.specs.Models.{model_line}
-use Rattle.cc_query.specs.Parts.{open_section, section_of}
+use Rattle.cc_lists.specs.Sections.{open_section, section_of}
 use Rattle.cc_run.specs.ModelsTold.{AreAt, AreWithin, EndsListing, IsAt, TellsFind, TellsListing, TellsMore, told_of}
 use Rattle.cc_search.specs.declared.stage.Find.TheVariants as finds
 use Rattle.cc_search.specs.Searches.{HasMore, IsBehind, SearchView, Stands, TellsTooMany, found_behind}

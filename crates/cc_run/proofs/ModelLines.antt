@@ -10,7 +10,7 @@ use Rattle.cc_defs.specs.Clauses.{Literal}
 use Rattle.cc_defs.specs.Rows.{IsRow}
 use Rattle.cc_defs.specs.Runs.{AreFairSteps, Derive, Section, Step, Tell, denied_rows, optional, row_told, rows_of}
 use Rattle.cc_defs.specs.Sections.{Axioms, row_denial}
-use Rattle.cc_query.specs.Parts.{open_section, section_of}
+use Rattle.cc_lists.specs.Sections.{open_section, section_of}
 use Rattle.cc_run.specs.ModelsTold.{AreWithin}
 use Rattle.cc_search.specs.Searches.{SearchView, Stands}
 use Rattle.cc_tell.specs.Tellers.{IsWritable}

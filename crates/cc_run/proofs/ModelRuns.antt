@@ -20,7 +20,7 @@ use Rattle.cc_judge.specs.Single.{BlocksAll, subject_over}
 use Rattle.cc_ports.specs.Contents.{Contents}
 use Rattle.cc_ports.specs.Moments.{Moment}
 use Rattle.cc_print.specs.Models.{models_verdict_line}
-use Rattle.cc_query.specs.Accepted.{AreGoodAxioms}
+use Rattle.cc_lists.specs.Subjects.{AreGoodAxioms}
 use Rattle.cc_run.specs.CnfForms.{IsFormOf}
 use Rattle.cc_run.specs.Modes.Checking.{verdict_status}
 use Rattle.cc_run.specs.Modes.CheckingModels.{ChecksModels, models_checking_promise}

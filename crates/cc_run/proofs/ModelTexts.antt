@@ -13,8 +13,8 @@ use Rattle.cc_defs.specs.Events.{line_told}
 use Rattle.cc_defs.specs.LogVersions.{header_of, line_bytes, lines_bytes, log_in}
 use Rattle.cc_defs.specs.Runs.{Derive, Section, Step, Tell, denied_rows, logged, optional, row_told, rows_of, section_events, step_events, told_row}
 use Rattle.cc_print.specs.Models.{model_line}
-use Rattle.cc_query.specs.Accepted.{lines_of}
-use Rattle.cc_query.specs.Parts.{open_section, section_of}
+use Rattle.cc_lists.specs.Sections.{open_section, section_of}
+use Rattle.cc_lists.specs.Subjects.{lines_of}
 use Rattle.cc_tell_modes.specs.ModelTexts.{model_lines, models_end, models_text}
 
 -- ---- the lines of a section

@@ -17,7 +17,7 @@ use Rattle.cc_defs.specs.Signatures.{Signature, ground_constants, position_count
 use Rattle.cc_defs.specs.Texts.{history_text, key_line}
 use Rattle.cc_ports.specs.declared.desk.To.TheVariants as outputs
 use Rattle.cc_print.specs.Atoms.{IsAtomOf}
-use Rattle.cc_query.specs.Parts.{section_lines}
+use Rattle.cc_lists.specs.Sections.{section_lines}
 use Rattle.cc_run.specs.Modes.Surely.{EndsSurely, sure_line}
 use Rattle.cc_run.specs.Sures.{IsWritableRun, surely_given}
 use Rattle.cc_sure.specs.declared.turn.SureTurn.{SureTurn}

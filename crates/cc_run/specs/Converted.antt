@@ -16,7 +16,7 @@ use Rattle.cc_defs.specs.Resolved.{Query}
 use Rattle.cc_defs.specs.Signatures.{Signature}
 use Rattle.cc_judge.specs.Judging.{BlocksHistories, IsVerdictWithin}
 use Rattle.cc_print.specs.Verdicts.{verdict_line}
-use Rattle.cc_query.specs.Accepted.{subject_of}
+use Rattle.cc_lists.specs.Subjects.{subject_of}
 use Rattle.cc_list.specs.Asking.{AreOf}
 use Rattle.cc_list.specs.Telling.{counts_of}
 use Rattle.cc_tell.specs.Givens.{Given}

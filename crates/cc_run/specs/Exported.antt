@@ -11,7 +11,7 @@ use Rattle.cc_defs.specs.Histories.{IsHistory}
 use Rattle.cc_defs.specs.Resolved.{Query}
 use Rattle.cc_defs.specs.Sections.{Axioms}
 use Rattle.cc_laws.specs.Questions.{step_refusal, steps_refusal}
-use Rattle.cc_query.specs.Sessions.{refusal_at}
+use Rattle.cc_lists.specs.Horizons.{refusal_at}
 use Rattle.cc_run.specs.Modes.Exporting.{export_refusal, exported, horizon_refusal, is_outside}
 use Rattle.cc_list.specs.Tasks.{query_named, refusal_without_place}
 use Rattle.cc_words.specs.Words.{Text}

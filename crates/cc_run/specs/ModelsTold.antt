@@ -11,7 +11,7 @@ use Rattle.cc_defs.specs.Runs.{Section, TellsRows, rows_of, section_events}
 use Rattle.cc_defs.specs.Sections.{Axioms}
 use Rattle.cc_judge.specs.Single.{subject_over}
 use Rattle.cc_ports.specs.Moments.{Moment}
-use Rattle.cc_query.specs.Accepted.{AreGoodAxioms, lines_of}
+use Rattle.cc_lists.specs.Subjects.{AreGoodAxioms, lines_of}
 use Rattle.cc_search.specs.Searches.{SearchView, Stands, TellsTooMany}
 use Rattle.cc_tell.specs.declared.status.Status.{Status}
 use Rattle.cc_tell.specs.declared.status.Status.TheVariants as statuses

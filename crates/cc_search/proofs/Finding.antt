@@ -22,11 +22,12 @@ use Rattle.cc_defs.specs.Runs.{Step, Derive, Tell, IsFairLine, Section, TellsRow
 use Rattle.cc_defs.specs.Sections.{Axioms, HasNoEmpty, row_denial}
 use Rattle.cc_kernel.specs.declared.kernel.Origin.TheVariants as origins
 use Rattle.cc_kernel.specs.Kernels.{added, axioms_of, clauses_of, derived_count}
+use Rattle.cc_lists.specs.Sections.{open_section, rows_in, section_of}
+use Rattle.cc_lists.specs.Subjects.{AreGoodAxioms}
+use Rattle.cc_lists.proofs.Members.{in_first}
 use Rattle.cc_query.specs.declared.phase.Part.TheVariants as parts
-use Rattle.cc_query.specs.Accepted.{AreGoodAxioms}
 use Rattle.cc_query.specs.Laws.{SearchLaws as Laws}
 use Rattle.cc_query.specs.Lefts.{left_at}
-use Rattle.cc_query.specs.Parts.{open_section, rows_in, section_of}
 use Rattle.cc_query.specs.Sessions.{HasFound, Holds, IsBlocked, IsWithin}
 use Rattle.cc_query.proofs.Going.{earned_none_empty}
 use Rattle.cc_query.proofs.Holding.{clauses_held, counted_as_derived, counted_within, holds_block, holds_line}
@@ -34,7 +35,7 @@ use Rattle.cc_query.proofs.Joining.{added_empty, least_there}
 use Rattle.cc_query.proofs.Lessening.{less_block, less_history, less_line}
 use Rattle.cc_query.proofs.Opened.{holds_first, within_opened}
 use Rattle.cc_query.proofs.Shortness.{line_short, row_short}
-use Rattle.cc_query.proofs.Steps.{added_behind, counted_more, in_first, rows_kept, rows_more}
+use Rattle.cc_query.proofs.Steps.{added_behind, counted_more, rows_kept, rows_more}
 use Rattle.cc_query.proofs.Told.{IsListingOn, line_told, listing_asked, listing_denied, listing_empty, listing_next, listing_on, listing_on_told, listing_open, listing_spent, listing_telling, nothing_told, still_fewer}
 use Rattle.cc_query.proofs.Within.{last_numbered}
 use Rattle.cc_search.specs.declared.stage.Find.{Find}

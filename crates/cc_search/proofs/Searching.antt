@@ -15,9 +15,9 @@ use Rattle.cc_defs.specs.Histories.{AreFirstOf}
 use Rattle.cc_defs.specs.LogTexts.{IsFormed}
 use Rattle.cc_defs.specs.Runs.{Derive, row_told, rows_of}
 use Rattle.cc_defs.specs.Sections.{Axioms}
-use Rattle.cc_query.specs.Accepted.{AreGoodAxioms}
-use Rattle.cc_query.specs.Parts.{open_section, section_of, step_line}
-use Rattle.cc_query.proofs.AcceptedLines.{all_append}
+use Rattle.cc_lists.specs.Sections.{open_section, section_of, step_line}
+use Rattle.cc_lists.specs.Subjects.{AreGoodAxioms}
+use Rattle.cc_lists.proofs.Members.{all_append}
 use Rattle.cc_search.specs.declared.stage.Find.{Find}
 use Rattle.cc_search.specs.declared.stage.Find.TheVariants as finds
 use Rattle.cc_search.specs.declared.least.Outcome.{Outcome}

@@ -9,8 +9,8 @@ use Rattle.cc_defs.specs.Histories.{AreFirstOf}
 use Rattle.cc_defs.specs.LogTexts.{IsFormed}
 use Rattle.cc_defs.specs.Runs.{EndsWith, Section, Step, TellsRows, rows_of}
 use Rattle.cc_defs.specs.Sections.{Axioms}
-use Rattle.cc_query.specs.Accepted.{AreGoodAxioms}
-use Rattle.cc_query.specs.Parts.{open_section, section_lines, step_line}
+use Rattle.cc_lists.specs.Sections.{open_section, section_lines, step_line}
+use Rattle.cc_lists.specs.Subjects.{AreGoodAxioms}
 use Rattle.cc_search.specs.declared.least.Outcome.{Outcome}
 use Rattle.cc_search.specs.declared.least.Outcome.TheVariants as outcomes
 use Rattle.cc_search.specs.Searches.{SearchView, Stands}

@@ -14,11 +14,12 @@ use Rattle.cc_defs.specs.Refusals.{past}
 use Rattle.cc_defs.specs.Runs.{Ask, Step, Derive, Tell, Section, TellsRows, rows_of}
 use Rattle.cc_defs.specs.Sections.{Axioms}
 use Rattle.cc_kernel.specs.Kernels.{clauses_of}
+use Rattle.cc_lists.specs.Sections.{open_section, rows_in, section_of}
 use Rattle.cc_query.specs.declared.phase.Part.TheVariants as parts
 use Rattle.cc_query.specs.declared.phase.Phase.{Phase}
 use Rattle.cc_query.specs.declared.phase.Phase.TheVariants as phases
 use Rattle.cc_query.specs.Lefts.{left_at}
-use Rattle.cc_query.specs.Parts.{clauses_behind, open_section, rows_in, section_of}
+use Rattle.cc_query.specs.Parts.{clauses_behind}
 use Rattle.cc_query.specs.Sessions.{HasFound, Holds, IsWithin}
 use Rattle.cc_search.specs.declared.stage.Find.{Find}
 use Rattle.cc_search.specs.declared.stage.Find.TheVariants as finds

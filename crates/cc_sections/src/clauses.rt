@@ -10,7 +10,7 @@ use crate::halt::Halt;
 use cc_arena::{GroundQuery, Laws};
 use cc_defs::{Key, Lit, OutOfMemory, Row, Sig};
 use cc_form::{Form, Template, clauses};
-use cc_query::fits;
+use cc_lists::fits;
 use cc_theory::Theory;
 use std::alloc::Global;
 use std::fmt::Write;

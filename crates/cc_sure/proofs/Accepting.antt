@@ -11,9 +11,10 @@ use Rattle.cc_defs.specs.LogTexts.{IsShort, line_text, lines_in}
 use Rattle.cc_defs.specs.Resolved.{Query}
 use Rattle.cc_defs.specs.Runs.{Section, EndsWith, optional, range_of}
 use Rattle.cc_defs.specs.Sections.{Right}
-use Rattle.cc_query.specs.Parts.{section_lines}
-use Rattle.cc_query.proofs.AcceptedEmpty.{lines_within, section_found}
-use Rattle.cc_query.proofs.AcceptedLines.{all_append, all_both, lines_cut}
+use Rattle.cc_lists.specs.Sections.{section_lines}
+use Rattle.cc_lists.proofs.AcceptedEmpty.{lines_within, section_found}
+use Rattle.cc_lists.proofs.AcceptedLines.{lines_cut}
+use Rattle.cc_lists.proofs.Members.{all_append, all_both}
 use Rattle.cc_sure.specs.declared.check.AtomHeading.{AtomHeading}
 use Rattle.cc_sure.specs.Accepted.{IsUnspent, IsUnspentEnding, IsWritableTold, SureLogsAreAccepted, never_of}
 use Rattle.cc_sure.specs.Sought.{PassesNoLimit, Sought, Any, With, sought_axioms}

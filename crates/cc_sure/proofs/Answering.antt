@@ -9,8 +9,7 @@ use Rattle.cc_defs.specs.Histories.{IsHistory}
 use Rattle.cc_defs.specs.Resolved.{Query}
 use Rattle.cc_defs.specs.Runs.{range_of}
 use Rattle.cc_defs.specs.Sections.{Axioms}
-use Rattle.cc_query.proofs.AcceptedLines.{all_append}
-use Rattle.cc_query.proofs.Steps.{in_cases, in_none}
+use Rattle.cc_lists.proofs.Members.{all_append, in_cases, in_none}
 use Rattle.cc_sure.specs.declared.answer.Answer.{Answer}
 use Rattle.cc_sure.specs.declared.answer.Answer.TheVariants as answers
 use Rattle.cc_sure.specs.Outcomes.{AreAnswersFor, IsAnswerFor, SomeHas}

@@ -4,7 +4,8 @@ use Rattle.std.specs.List.{AllByRecursion}
 use Rattle.cc_defs.specs.declared.log.LogLine.{LogLine}
 use Rattle.cc_defs.specs.declared.log.LogLine.TheVariants as lines
 use Rattle.cc_defs.specs.LogTexts.{IsShort, line_text, lines_in}
-use Rattle.cc_query.proofs.AcceptedLines.{HasNoFeed, IsNoFeed, IsWithin, all_append, all_map, cut, digits, letter, letter_of}
+use Rattle.cc_lists.proofs.AcceptedLines.{HasNoFeed, IsNoFeed, IsWithin, cut, digits, letter, letter_of}
+use Rattle.cc_lists.proofs.Members.{all_append, all_map}
 use Rattle.cc_sure.specs.declared.check.AtomHeading.{AtomHeading}
 use Rattle.cc_sure.specs.SureLogs.{IsAtomHeading}
 use Rattle.cc_sure.specs.SureTold.{atom_heading}

@@ -10,7 +10,7 @@ use Rattle.cc_defs.specs.Clauses.{Literal, meets}
 use Rattle.cc_defs.specs.Rows.{IsRow}
 use Rattle.cc_defs.specs.Sections.{Axioms}
 use Rattle.cc_form.specs.Forms.{with_atom}
-use Rattle.cc_query.proofs.Steps.{in_cases, in_first, in_none}
+use Rattle.cc_lists.proofs.Members.{in_cases, in_first, in_none}
 use Rattle.cc_sure.specs.Sought.{HasValue}
 
 -- a row has an index at each position, below the number of its values

@@ -5,7 +5,7 @@ use Rattle.std.proofs.lemmas.Grind.{flat_map-append}
 use Rattle.cc_defs.specs.declared.log.LogLine.{LogLine}
 use Rattle.cc_defs.specs.Resolved.{Query}
 use Rattle.cc_defs.specs.Runs.{optional, range_of}
-use Rattle.cc_query.specs.Parts.{section_lines}
+use Rattle.cc_lists.specs.Sections.{section_lines}
 use Rattle.cc_sure.specs.declared.event.SureEvent.{SureEvent}
 use Rattle.cc_sure.specs.declared.event.SureEvent.TheVariants as events
 use Rattle.cc_sure.specs.declared.turn.SureTurn.{SureTurn}

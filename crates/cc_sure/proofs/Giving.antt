@@ -16,9 +16,8 @@ use Rattle.cc_defs.specs.Runs.{range_of}
 use Rattle.cc_defs.specs.Sections.{Axioms}
 use Rattle.cc_form.specs.Building.{count_refusal}
 use Rattle.cc_form.specs.Forms.{with_atom}
-use Rattle.cc_query.specs.Accepted.{AreGoodAxioms}
-use Rattle.cc_query.proofs.AcceptedLines.{all_append}
-use Rattle.cc_query.proofs.Steps.{in_first}
+use Rattle.cc_lists.specs.Subjects.{AreGoodAxioms}
+use Rattle.cc_lists.proofs.Members.{all_append, in_first}
 use Rattle.cc_search.specs.declared.least.Outcome.{Outcome}
 use Rattle.cc_search.specs.declared.least.Outcome.TheVariants as outcomes
 use Rattle.cc_search.specs.Outcomes.{IsEnded, IsOutcome}

@@ -13,7 +13,7 @@ use Rattle.cc_defs.specs.Runs.{axioms_of, range_of}
 use Rattle.cc_defs.specs.Sections.{Axioms}
 use Rattle.cc_form.specs.Building.{count_refusal}
 use Rattle.cc_form.specs.Forms.{section_refusal, with_atom}
-use Rattle.cc_query.proofs.AcceptedLines.{all_append}
+use Rattle.cc_lists.proofs.Members.{all_append}
 use Rattle.cc_sure.specs.declared.turn.SureTurn.{SureTurn}
 use Rattle.cc_sure.specs.declared.phase.Phase.TheVariants as phases
 use Rattle.cc_sure.specs.Sought.{With, sought_refusal}

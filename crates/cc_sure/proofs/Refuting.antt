@@ -17,7 +17,7 @@ use Rattle.cc_defs.specs.Resolved.{Query}
 use Rattle.cc_defs.specs.Runs.{axioms_of}
 use Rattle.cc_defs.specs.Sections.{Finding, Right, Trailed, Wrong, IsFound}
 use Rattle.cc_form.specs.Forms.{TellsHistories, form_of}
-use Rattle.cc_query.proofs.Steps.{in_cases, in_none}
+use Rattle.cc_lists.proofs.Members.{in_cases, in_none}
 use Rattle.cc_sure.specs.declared.check.AtomHeading.{AtomHeading}
 use Rattle.cc_sure.specs.Sought.{With, sought_axioms}
 use Rattle.cc_sure.specs.SureLogs.{IsAtomHeading, IsInRange, RefutesAtoms, sure_subject}

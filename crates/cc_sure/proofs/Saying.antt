@@ -1,7 +1,7 @@
 -- What a turn of a run on certain and possible atoms says.
 use Rattle.std.proofs.Common.{◌≡◌, refl, sym, ap}
 use Rattle.cc_defs.specs.Runs.{Section}
-use Rattle.cc_query.specs.Parts.{section_lines}
+use Rattle.cc_lists.specs.Sections.{section_lines}
 use Rattle.cc_sure.specs.declared.turn.SureTurn.{SureTurn}
 use Rattle.cc_sure.specs.declared.turn.SureTurn.TheVariants as turns
 use Rattle.cc_sure.specs.Sought.{Sought}

@@ -7,7 +7,7 @@ use Rattle.cc_defs.specs.Description.{Description}
 use Rattle.cc_defs.specs.Histories.{AreAllOf, IsHistory}
 use Rattle.cc_defs.specs.Resolved.{Query}
 use Rattle.cc_defs.specs.Runs.{Section}
-use Rattle.cc_query.proofs.Steps.{in_first, in_none}
+use Rattle.cc_lists.proofs.Members.{in_first, in_none}
 use Rattle.cc_sure.specs.Outcomes.{SomeHas}
 use Rattle.cc_sure.specs.Sought.{HasValue, IsAtomAt, IsSought, With}
 use Rattle.cc_sure.specs.SureRuns.{Settled, Tried, Known, Shown, Never, AreTrueSettled, AreTrueTried, IsTrueSettled, IsTrueTried, shown_at, shown_by, shown_in}

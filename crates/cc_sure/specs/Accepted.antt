@@ -6,8 +6,8 @@ use Rattle.cc_check.specs.declared.silent.SilentVerdict.TheVariants as verdicts
 use Rattle.cc_defs.specs.Description.{Description}
 use Rattle.cc_defs.specs.LogTexts.{IsFormed, IsShort}
 use Rattle.cc_defs.specs.Resolved.{Query}
-use Rattle.cc_query.specs.Accepted.{AreGoodAxioms}
-use Rattle.cc_query.specs.Parts.{section_lines}
+use Rattle.cc_lists.specs.Sections.{section_lines}
+use Rattle.cc_lists.specs.Subjects.{AreGoodAxioms}
 use Rattle.cc_sure.specs.Sought.{With, sought_axioms}
 use Rattle.cc_sure.specs.SureLogs.{sure_subject}
 use Rattle.cc_sure.specs.SureRuns.{IsFairSure, SureEnding, Complete, NoneAtAll, Spent, SureRun, sure_horizon}

@@ -4,7 +4,7 @@ use Rattle.cc_defs.specs.declared.log.LogLine.TheVariants as lines
 use Rattle.cc_defs.specs.LogTexts.{line_text}
 use Rattle.cc_defs.specs.Resolved.{Query}
 use Rattle.cc_defs.specs.Runs.{Section, optional, range_of}
-use Rattle.cc_query.specs.Parts.{section_lines}
+use Rattle.cc_lists.specs.Sections.{section_lines}
 use Rattle.cc_sure.specs.Sought.{Sought, Any, With}
 use Rattle.cc_sure.specs.SureRuns.{Settled, SureEnding, Complete, NoneAtAll, Spent, SureRun, Tried, Known, Shown, Never, settled_examples, shown_at, sought_next, sure_horizon}
 use Rattle.cc_sure.specs.declared.answer.Answer.{Answer}

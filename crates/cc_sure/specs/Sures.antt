@@ -16,8 +16,8 @@ use Rattle.cc_defs.specs.Sections.{Axioms}
 use Rattle.cc_defs.specs.Signatures.{Signature}
 use Rattle.cc_form.specs.Forms.{section_refusal}
 use Rattle.cc_form.specs.Queries.{IsQueryAt}
-use Rattle.cc_query.specs.Accepted.{AreGoodAxioms}
-use Rattle.cc_query.specs.Parts.{section_lines}
+use Rattle.cc_lists.specs.Sections.{section_lines}
+use Rattle.cc_lists.specs.Subjects.{AreGoodAxioms}
 use Rattle.cc_sure.specs.Outcomes.{SomeHas}
 use Rattle.cc_sure.specs.Sought.{Sought, Any, With, sought_axioms}
 use Rattle.cc_sure.specs.SureRuns.{IsFairSure, ReachesSureLimit, SureRun, Tried, Known, Shown, Never, Complete, NoneAtAll, Spent, examples_of, sure_horizon}

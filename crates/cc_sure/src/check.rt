@@ -25,7 +25,7 @@ use cc_defs::theorems::positions_have_sizes;
 use cc_defs::{Fault, OutOfMemory, Sig};
 use cc_form::Form;
 use cc_form::theorems::lists_tell_histories;
-use cc_query::form_at;
+use cc_lists::form_at;
 use std::alloc::Global;
 use std::marker::Model;
 

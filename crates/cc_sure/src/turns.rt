@@ -26,7 +26,7 @@ use crate::turn::SureTurn;
 use cc_arena::{GroundQuery, Laws};
 use cc_defs::{Fault, List, LogLine, OutOfMemory, Row, Sig};
 use cc_form::Form;
-use cc_query::form_at;
+use cc_lists::form_at;
 use cc_results::{filled, put_last};
 use cc_search::{Outcome, search_one};
 use std::alloc::Global;

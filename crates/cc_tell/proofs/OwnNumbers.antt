@@ -9,8 +9,7 @@ use Rattle.cc_defs.specs.declared.log.LogLine.{LogLine}
 use Rattle.cc_defs.specs.declared.log.Version.{Version}
 use Rattle.cc_defs.specs.Events.{line_told}
 use Rattle.cc_defs.specs.LogVersions.{own_behind}
-use Rattle.cc_query.specs.Accepted.{lines_of}
-use Rattle.cc_query.specs.Sessions.{with_row}
+use Rattle.cc_lists.specs.Subjects.{lines_of, with_row}
 use Rattle.cc_tell.specs.declared.status.Stop.{Stop}
 use Rattle.cc_tell.specs.declared.telling.Teller.{Teller}
 use Rattle.cc_tell.specs.declared.telling.Teller.TheVariants as tellers

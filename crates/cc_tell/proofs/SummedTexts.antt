@@ -8,7 +8,7 @@ use Rattle.cc_defs.specs.declared.event.Told.{Told}
 use Rattle.cc_defs.specs.Description.{Description}
 use Rattle.cc_ports.specs.declared.desk.To.TheVariants as outputs
 use Rattle.cc_print.specs.Summaries.{endings_told, summary}
-use Rattle.cc_query.specs.Sessions.{with_row}
+use Rattle.cc_lists.specs.Subjects.{with_row}
 use Rattle.cc_tell.specs.Manners.{Summed, summed}
 use Rattle.cc_tell.specs.Givens.{given_to}
 use Rattle.cc_tell.specs.EventTexts.{texts_behind}

@@ -12,7 +12,7 @@ use Rattle.cc_defs.specs.LogTexts.{line_text}
 use Rattle.cc_defs.specs.LogVersions.{line_bytes, lines_bytes, own_behind}
 use Rattle.cc_defs.specs.Rows.{IsRow}
 use Rattle.cc_defs.specs.Signatures.{Signature}
-use Rattle.cc_query.specs.Accepted.{lines_of}
+use Rattle.cc_lists.specs.Subjects.{lines_of}
 use Rattle.cc_tell.specs.Manners.{Manner, OneByOne, Summed, out_told}
 use Rattle.cc_tell.specs.Givens.{Given}
 

@@ -8,7 +8,7 @@ use Rattle.cc_defs.specs.Events.{out_text, log_of}
 use Rattle.cc_defs.specs.LogTexts.{header}
 use Rattle.cc_defs.specs.LogVersions.{header_of, log_in}
 use Rattle.cc_print.specs.Summaries.{endings_told, summary}
-use Rattle.cc_query.specs.Accepted.{lines_of}
+use Rattle.cc_lists.specs.Subjects.{lines_of}
 
 -- To Out each event as it comes, with a log in this version, where a section has so many axioms; or a summary at the end, as that of a
 -- made description of a size, with a log in version 1.

@@ -7,7 +7,7 @@ use Rattle.cc_defs.specs.declared.event.Told.{Told}
 use Rattle.cc_defs.specs.declared.log.LogLine.{LogLine}
 use Rattle.cc_defs.specs.declared.log.LogLine.TheVariants as lines
 use Rattle.cc_print.specs.Summaries.{empty_horizons, endings_told}
-use Rattle.cc_query.specs.Accepted.{lines_of}
+use Rattle.cc_lists.specs.Subjects.{lines_of}
 use Rattle.cc_tell.specs.declared.telling.Teller.{Teller}
 use Rattle.cc_tell.specs.declared.telling.Teller.TheVariants as tellers
 use Rattle.cc_tell.specs.Manners.{Manner, OneByOne, Summed}

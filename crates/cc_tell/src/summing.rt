@@ -4,7 +4,7 @@ ghost use Rattle.cc_defs.specs.Description.{Description};
 ghost use Rattle.cc_defs.specs.declared.event.Told.{Told as ToldEvent};
 ghost use Rattle.cc_ports.specs.declared.desk.To.TheVariants as outputs;
 ghost use Rattle.cc_print.specs.Summaries.{endings_told, summary};
-ghost use Rattle.cc_query.specs.Sessions.{IsShortEvent, with_row};
+ghost use Rattle.cc_lists.specs.Subjects.{IsShortEvent, with_row};
 ghost use Rattle.cc_tell.specs.Manners.{Summed};
 ghost use Rattle.cc_tell.specs.Steps.{Step};
 ghost use Rattle.cc_tell.specs.Givens.{given_to};

@@ -11,7 +11,7 @@ ghost use Rattle.cc_defs.specs.LogVersions.{line_bytes, own_behind};
 ghost use Rattle.cc_defs.specs.Rows.{IsRow};
 ghost use Rattle.cc_defs.specs.Texts as texts;
 ghost use Rattle.cc_ports.specs.declared.desk.To.TheVariants as outputs;
-ghost use Rattle.cc_query.specs.Sessions.{IsShortEvent, with_row};
+ghost use Rattle.cc_lists.specs.Subjects.{IsShortEvent, with_row};
 ghost use Rattle.cc_sorts.specs.Tables.{IsSignatureFor};
 ghost use Rattle.cc_tell.specs.Names.{AreNamesOf};
 ghost use Rattle.cc_tell.specs.Manners.{header_told};

@@ -13,7 +13,7 @@ use Rattle.cc_describe.specs.Describing.{AreToOpen}
 use Rattle.cc_describe.specs.Places.{Files}
 use Rattle.cc_judge.specs.Judging.{BlocksHistories, IsJudgeFault, IsVerdictWithin}
 use Rattle.cc_print.specs.Verdicts.{verdict_line}
-use Rattle.cc_query.specs.Accepted.{subject_of}
+use Rattle.cc_lists.specs.Subjects.{subject_of}
 use Rattle.cc_list.specs.Promises.{Promise, IsEndStatus}
 use Rattle.cc_list.specs.Tasks.{IsTask, RefusesNamed, Task}
 use Rattle.cc_run.specs.Naming.{named_in}

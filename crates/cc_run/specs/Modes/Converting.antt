@@ -12,7 +12,7 @@ use Rattle.cc_describe.specs.Describing.{AreToOpen}
 use Rattle.cc_describe.specs.Places.{Files}
 use Rattle.cc_judge.specs.Judging.{BlocksHistories, IsVerdictWithin}
 use Rattle.cc_print.specs.Verdicts.{verdict_line}
-use Rattle.cc_query.specs.Accepted.{subject_of}
+use Rattle.cc_lists.specs.Subjects.{subject_of}
 use Rattle.cc_run.specs.Modes.Checking.{MayEndChecking, NamesLog, RefusesChecking, verdict_status}
 use Rattle.cc_list.specs.Promises.{Promise}
 use Rattle.cc_list.specs.Tasks.{Task}

@@ -15,7 +15,7 @@ use Rattle.cc_describe.specs.Places.{Files, Place, opened_in}
 use Rattle.cc_dimacs.specs.CnfTexts.{export_of}
 use Rattle.cc_ground.specs.Counting.{laws_refusal}
 use Rattle.cc_laws.specs.Questions.{step_refusal}
-use Rattle.cc_query.specs.Sessions.{refusal_at}
+use Rattle.cc_lists.specs.Horizons.{refusal_at}
 use Rattle.cc_list.specs.Promises.{Promise, IsEndStatus}
 use Rattle.cc_list.specs.Tasks.{AreRead, RefusesDescription, description_in, queries_in, query_named, query_refusal}
 use Rattle.cc_run.specs.Naming.{named_from}

@@ -13,7 +13,7 @@ use Rattle.cc_describe.specs.Places.{Files}
 use Rattle.cc_dimacs.specs.Cnfs.{PlainCnf, IsModelOf, cnf_axioms, cnf_refusal}
 use Rattle.cc_dimacs.specs.CnfTexts.{IsCnfText, IsCnfRefusal}
 use Rattle.cc_judge.specs.Single.{subject_over}
-use Rattle.cc_query.specs.Accepted.{lines_of}
+use Rattle.cc_lists.specs.Subjects.{lines_of}
 use Rattle.cc_list.specs.Promises.{Promise, IsEndStatus}
 use Rattle.cc_list.specs.Wholes.{Whole}
 use Rattle.cc_search.specs.Searches.{TellsTooMany}

@@ -37,9 +37,9 @@ use cc_defs::{Fault, LimitAt, LogLine, LogVerdict, OutOfMemory, Refusal, Version
 use cc_describe::Described;
 use cc_judge::judge;
 use cc_list::Prepared;
+use cc_lists::form_at;
 use cc_log::theorems::other_versions_are_judged_alike;
 use cc_ports::{Desk, ReadStop, read_all};
-use cc_query::form_at;
 use cc_tell::{
     Status, Stop, Teller, begin_log, give_header, own_behind_line, refuse, tell_line_in,
 };

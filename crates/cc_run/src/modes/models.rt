@@ -3,7 +3,7 @@ ghost use Rattle.std.specs.Prelude.{◌≡◌, ◌<◌, ◌≤◌, ℕ, [], IfOk
 ghost use Rattle.cc_defs.specs.Runs.{Section};
 ghost use Rattle.cc_defs.specs.Sections.{Axioms};
 ghost use Rattle.cc_dimacs.specs.Cnfs.{PlainCnf};
-ghost use Rattle.cc_query.specs.Parts.{open_section};
+ghost use Rattle.cc_lists.specs.Sections.{open_section};
 ghost use Rattle.cc_run.specs.CnfForms.{IsFormOf};
 ghost use Rattle.cc_run.specs.Modes.Modelling.{modelling_promise, IsCnfIn};
 ghost use Rattle.cc_run.specs.ModelsTold.{AreAt, AreWithin, IsAt, TellsFind, TellsListing, told_of};

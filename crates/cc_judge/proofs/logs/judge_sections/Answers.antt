@@ -1,7 +1,7 @@
 use Rattle.std.proofs.Common.{◌≤◌, ℕ, Bor, option_map, subst, ap, ◌∙◌, arith}
 use Rattle.cc_arena.specs.GroundViews.{plain_ground_query}
 use Rattle.cc_defs.specs.declared.lists.Key.{Key}
-use Rattle.cc_query.specs.Sessions.{first_at}
+use Rattle.cc_lists.specs.Horizons.{first_at}
 use Rattle.cc_judge.specs.declared.standing.Next.{Next}
 use Rattle.cc_judge.specs.Standings.{IsClosedAt, IsFaultOn, IsForward, IsJudgedTo, scope_of, seen}
 use Rattle.cc_judge.proofs.Going.{begun_at, begun_so, came_to_end, section_early, went_on, went_past, went_wrong}

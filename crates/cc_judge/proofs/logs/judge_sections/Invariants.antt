@@ -3,7 +3,7 @@ use Rattle.std.specs.Option.{option_map}
 use Rattle.cc_arena.specs.GroundViews.{plain_ground_query}
 use Rattle.cc_check.specs.SectionTexts.{length_ahead}
 use Rattle.cc_defs.specs.declared.lists.Key.{Key}
-use Rattle.cc_query.specs.Sessions.{first_at}
+use Rattle.cc_lists.specs.Horizons.{first_at}
 use Rattle.cc_judge.proofs.Going.{SoFar}
 use Rattle.cc_judge.proofs.Placing.{Asked, scope_asked}
 use Rattle.cc_judge.proofs.logs.judge_sections.Given as goal

@@ -1,5 +1,5 @@
 -- The text of the log tells its lines, and these and the printed text tell the run.
-use Rattle.cc_query.specs.Accepted.{lines_of}
+use Rattle.cc_lists.specs.Subjects.{lines_of}
 use Rattle.cc_list.specs.Searching.{told_by}
 use Rattle.cc_list.proofs.theorems.texts_tell_one_run.Goals as goal
 

@@ -3,8 +3,8 @@ use Rattle.std.specs.Prelude.{All}
 use Rattle.cc_cdcl.specs.Solvers.{Ready, SolverView}
 use Rattle.cc_defs.specs.Clauses.{Literal, IsOver}
 use Rattle.cc_kernel.specs.Kernels.{KernelView, axioms_of}
+use Rattle.cc_lists.proofs.GoodAxioms.{good_axioms}
 use Rattle.cc_query.proofs.Opened.{of_made, on_ok, positions_there}
-use Rattle.cc_query.proofs.Shortness.{good_axioms}
 use Rattle.cc_query.proofs.opening.solver_of.Goals as goal
 
 pub new-requires-clause-positions : goal.new-requires-clause-positions

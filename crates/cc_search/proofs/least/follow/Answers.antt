@@ -1,6 +1,6 @@
 use Rattle.std.proofs.Common.{Some, subst, sym}
 use Rattle.std.proofs.lemmas.Bool.{false≢true}
-use Rattle.cc_query.specs.Parts.{open_section}
+use Rattle.cc_lists.specs.Sections.{open_section}
 use Rattle.cc_search.specs.declared.stage.Find.{Find}
 use Rattle.cc_search.specs.Searches.{GoesOn}
 use Rattle.cc_search.proofs.Searching.{closes, errs_as, line_told, not_found, only_memory, outcome_is, row_told_first}

@@ -1,6 +1,6 @@
 use Rattle.std.proofs.Common.{refl}
 use Rattle.cc_arena.specs.GroundViews.{plain_ground_query}
-use Rattle.cc_query.specs.Sessions.{Fits}
+use Rattle.cc_lists.specs.Horizons.{Fits}
 use Rattle.cc_sections.proofs.Items.{asked_of}
 use Rattle.cc_sections.proofs.clauses.form_behind.Goals as goal
 

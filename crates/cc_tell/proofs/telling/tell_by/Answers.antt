@@ -1,5 +1,5 @@
 use Rattle.std.proofs.Common.{ap, subst, sym}
-use Rattle.cc_query.specs.Sessions.{with_row}
+use Rattle.cc_lists.specs.Subjects.{with_row}
 use Rattle.cc_tell.specs.EventTexts.{texts_behind}
 use Rattle.cc_tell.specs.Tellers.{KeepsUp, manner_of}
 use Rattle.cc_tell.proofs.OwnNumbers.{numbered_keeps}

@@ -1,6 +1,6 @@
 use Rattle.std.proofs.Common.{◌++◌, Some, append-nil, sym}
 use Rattle.cc_ports.specs.declared.desk.To.TheVariants as outputs
-use Rattle.cc_query.proofs.Positions.{row_in}
+use Rattle.cc_lists.proofs.Positions.{row_in}
 use Rattle.cc_tell_modes.specs.GeneralTexts.{heading_for, lines_text}
 use Rattle.cc_tell.proofs.GivenSteps.{one_as}
 use Rattle.cc_tell_modes.proofs.SureLines.{log_cut, log_then}

@@ -4,7 +4,7 @@ use Rattle.cc_general.specs.Generals.{GeneralView}
 use Rattle.cc_general.proofs.Opened.{among_first}
 use Rattle.cc_general.proofs.Walking.{errs_with}
 use Rattle.cc_general.proofs.turns.GeneralTurns.begun.Goals as goal
-use Rattle.cc_query.specs.Parts.{open_section}
+use Rattle.cc_lists.specs.Sections.{open_section}
 use Rattle.cc_search.specs.Searches.{Stands}
 
 pub returns-in_err-form-clause-refused : goal.returns-in_err-form-clause-refused

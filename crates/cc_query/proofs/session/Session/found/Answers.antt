@@ -2,10 +2,11 @@ use Rattle.std.proofs.Common.{◌∙◌, ◌≤◌, ℕ, List, sym, subst, ap}
 use Rattle.std.specs.Prelude.{IfOk, IfErr}
 use Rattle.cc_cdcl.specs.Solvers.{Found}
 use Rattle.cc_defs.specs.declared.log.EndWord.TheVariants as words
+use Rattle.cc_lists.specs.Horizons.{last_at}
 use Rattle.cc_query.specs.declared.phase.Part.{Part}
 use Rattle.cc_query.specs.declared.phase.Phase.TheVariants as phases
 use Rattle.cc_query.specs.Events.{Gives}
-use Rattle.cc_query.specs.Sessions.{SessionView, IsRightFault, last_at}
+use Rattle.cc_query.specs.Sessions.{SessionView, IsRightFault}
 use Rattle.cc_query.proofs.Joining.{askable_of, history_fault, history_gives, path_gives}
 use Rattle.cc_query.proofs.session.Session.found.Goals as goal
 

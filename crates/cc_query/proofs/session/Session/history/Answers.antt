@@ -1,6 +1,7 @@
 use Rattle.std.proofs.Common.{◌∙◌, ◌+◌, ◌≤◌, ap, refl, sym, subst}
+use Rattle.cc_lists.specs.Horizons.{last_at}
 use Rattle.cc_query.specs.declared.phase.Phase.TheVariants as phases
-use Rattle.cc_query.specs.Sessions.{SessionView, IsWithin, last_at}
+use Rattle.cc_query.specs.Sessions.{SessionView, IsWithin}
 use Rattle.cc_query.proofs.Within.{one_more}
 use Rattle.cc_defs.specs.declared.event.Event.{Event}
 use Rattle.cc_defs.specs.declared.event.Event.TheVariants as events

@@ -3,7 +3,8 @@ use Rattle.cc_arena.specs.GroundViews.{plain_ground_query}
 use Rattle.cc_defs.specs.declared.lists.Key.{Key}
 use Rattle.cc_defs.specs.GroundLaws.{PlainGroundQuery}
 use Rattle.cc_form.specs.Steps.{TemplateView}
-use Rattle.cc_query.specs.Sessions.{IsAskable, first_at, last_at}
+use Rattle.cc_lists.specs.Horizons.{first_at, last_at}
+use Rattle.cc_query.specs.Sessions.{IsAskable}
 use Rattle.cc_query.proofs.Beginning.{nothing_given, opening_more}
 use Rattle.cc_query.proofs.session.Session.new.Goals as goal
 

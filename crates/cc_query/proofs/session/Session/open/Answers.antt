@@ -1,10 +1,11 @@
 use Rattle.std.proofs.Common.{◌≤◌, ◌∙◌, ap, subst, sym}
 use Rattle.cc_defs.specs.declared.event.Event.TheVariants as events
 use Rattle.cc_defs.specs.declared.log.LogLine.TheVariants as lines
+use Rattle.cc_lists.specs.Horizons.{last_at}
 use Rattle.cc_query.specs.declared.phase.Phase.TheVariants as phases
 use Rattle.cc_query.specs.Events.{Gives}
 use Rattle.cc_query.specs.Parts.{is_conditions}
-use Rattle.cc_query.specs.Sessions.{SessionView, IsRightFault, IsSessionOf, last_at}
+use Rattle.cc_query.specs.Sessions.{SessionView, IsRightFault, IsSessionOf}
 use Rattle.cc_query.proofs.Giving.{gives_heading}
 use Rattle.cc_query.proofs.Joining.{askable_of, gives_at, opening_fault}
 use Rattle.cc_query.proofs.Refusing.{errs}

@@ -1,11 +1,12 @@
 use Rattle.std.proofs.Common.{sym, subst}
 use Rattle.std.specs.Option.{option_map}
+use Rattle.cc_lists.specs.Horizons.{opening_refusal}
 use Rattle.cc_query.proofs.Opened.{fresh_opened, good_opened, holds_opened, rows_opened, within_opened, within_part}
 use Rattle.cc_query.proofs.Reaching.{query_there}
 use Rattle.cc_query.proofs.Refusing.{errs, opening_refused}
 use Rattle.cc_defs.specs.Refusals.{IsRefusedBy}
 use Rattle.cc_query.specs.Parts.{is_conditions}
-use Rattle.cc_query.specs.Sessions.{SessionView, IsSessionOf, opening_refusal}
+use Rattle.cc_query.specs.Sessions.{SessionView, IsSessionOf}
 use Rattle.cc_query.proofs.session.Session.solver.Goals as goal
 
 pub form-requires-clause-query : goal.form-requires-clause-query

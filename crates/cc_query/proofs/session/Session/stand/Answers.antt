@@ -1,7 +1,8 @@
 use Rattle.std.proofs.Common.{◌∙◌, ap, subst, sym}
 use Rattle.cc_arena.specs.GroundViews.{plain_ground_query}
+use Rattle.cc_lists.specs.Horizons.{last_at}
 use Rattle.cc_query.specs.declared.phase.Phase.{Phase}
-use Rattle.cc_query.specs.Sessions.{SessionView, IsReady, last_at}
+use Rattle.cc_query.specs.Sessions.{SessionView, IsReady}
 use Rattle.cc_query.proofs.session.Session.stand.Goals as goal
 
 pub invariant_of-self : goal.invariant_of-self

@@ -1,6 +1,7 @@
 use Rattle.std.proofs.Common.{◌∙◌, ap, subst, sym}
+use Rattle.cc_lists.specs.Horizons.{last_at}
 use Rattle.cc_query.specs.declared.phase.Phase.{Phase}
-use Rattle.cc_query.specs.Sessions.{SessionView, IsReady, last_at}
+use Rattle.cc_query.specs.Sessions.{SessionView, IsReady}
 use Rattle.cc_query.proofs.session.Session.take.Goals as goal
 
 pub returns-clause-ready : goal.returns-clause-ready

@@ -1,0 +1,9 @@
+pub mod AcceptedEmpty
+pub mod AcceptedLines
+pub mod AcceptedSections
+pub mod Forming
+pub mod GoodAxioms
+pub mod LinesRead
+pub mod Members
+pub mod Positions
+pub mod Ranges

@@ -1,0 +1,3 @@
+pub mod Horizons
+pub mod Sections
+pub mod Subjects

@@ -1,6 +1,0 @@
-use Rattle.cc_form.specs.Places.{position_sizes}
-use Rattle.cc_query.proofs.Positions.{AreWithin}
-use Rattle.cc_query.proofs.keys.has_indexes.Given as goal
-
-abbrev pub invariant-loop-position : goal.invariant-loop-position
-invariant-loop-position l = AreWithin (position_sizes l.sig l.horizon) l.row l.position
