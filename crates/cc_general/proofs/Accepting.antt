@@ -13,10 +13,10 @@ use Rattle.cc_defs.specs.Runs.{optional}
 use Rattle.cc_defs.specs.Sections.{Right}
 use Rattle.cc_defs.specs.Texts.{key_text}
 use Rattle.cc_general.specs.Accepted.{GeneralLogsAreAccepted, IsUnspentEnding, IsWritableShown}
-use Rattle.cc_general.specs.GeneralLogs.{IsCandidateKey, IsRivalsHeading, general_subject}
+use Rattle.cc_silent.specs.GeneralLogs.{IsCandidateKey, IsRivalsHeading, general_subject, rivals_heading}
 use Rattle.cc_general.specs.GeneralRuns.{GeneralEnding, Complete, Asked, NoneAtAll, SpentAmong, SpentOver, GeneralRun, IsFairGeneral, IsShownRightly, Shown, general_horizon}
-use Rattle.cc_general.specs.GeneralTold.{rivals_heading, shown_text, spent_text}
-use Rattle.cc_general.proofs.RowTexts.{joined}
+use Rattle.cc_general.specs.GeneralTold.{shown_text, spent_text}
+use Rattle.cc_silent.proofs.RowTexts.{joined}
 use Rattle.cc_lists.specs.Sections.{section_lines}
 use Rattle.cc_lists.proofs.AcceptedEmpty.{lines_within, section_found}
 use Rattle.cc_lists.proofs.AcceptedLines.{HasNoFeed, IsNoFeed, IsWithin, cut, digits, letter, letter_within, lines_cut}

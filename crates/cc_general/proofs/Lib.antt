@@ -1,13 +1,9 @@
-mod AcceptedSilent
 mod Accepting
 mod Beginning
 mod Candidates
-mod Checking
 mod EventsGrow
 mod Fairness
 mod HandingOut
-mod Headings
 mod Opened
-mod RowTexts
 mod Telling
 mod Walking

@@ -1,5 +1,5 @@
 -- A turn of the walk over the candidates of a horizon, and what it comes to.
-use Rattle.std.proofs.Common.{◌≡◌, ◌≢◌, ◌∙◌, ℕ, ◌+◌, ◌<◌, ◌≤◌, List, [], ◌∷◌, ◌++◌, length, map, Option, Some, None, Result, Ok, Err, IfOk, IfErr, IsErrAnd, refl, sym, subst, ap, arith, append-nil, length-append, inl, inr}
+use Rattle.std.proofs.Common.{◌≡◌, ◌≢◌, ◌∙◌, ℕ, ◌+◌, ◌<◌, ◌≤◌, List, [], ◌∷◌, ◌++◌, length, map, Option, Some, None, Result, Ok, Err, IfOk, IfErr, refl, sym, subst, ap, arith, append-nil, length-append, inl, inr}
 use Rattle.std.specs.Prelude.{IsNone}
 use Rattle.std.specs.List.{AllByRecursion}
 use Rattle.std.proofs.lemmas.List.{map-append}
@@ -382,7 +382,3 @@ module _ (general : GeneralView) (old : SearchView) (before : List LogLine) (sea
   pub walking_fault : (fault : Fault) → IsWalkFault general search lines fault → IsWalkFault general old before fault
   walking_fault faults.OutOfMemory is = tt
   walking_fault (faults.Refused refusal) is = λ w q told laws query among. is w q told laws query (walking.tells w q told laws query among)
-
-pub errs_with : {T : Type 0} (P : Fault → Type 0) (r : Result T Fault) (fault : Fault) → IsErrAnd r (λ given. given ≡ fault) → P fault → IfErr r P
-errs_with P (Ok done) fault is so = tt
-errs_with P (Err given) fault is so = subst P (sym is) so

@@ -5,7 +5,7 @@ use Rattle.cc_check.specs.declared.silent.SilentVerdict.TheVariants as verdicts
 use Rattle.cc_check.specs.Silent.{IsSilentVerdict}
 use Rattle.cc_defs.specs.LogTexts.{IsFormed, IsShort}
 use Rattle.cc_defs.specs.Resolved.{Query}
-use Rattle.cc_general.specs.GeneralLogs.{general_subject}
+use Rattle.cc_silent.specs.GeneralLogs.{general_subject}
 use Rattle.cc_general.specs.GeneralRuns.{GeneralEnding, Complete, Asked, NoneAtAll, SpentAmong, SpentOver, GeneralRun, IsFairGeneral, Shown, general_horizon}
 use Rattle.cc_general.specs.GeneralTold.{general_log}
 use Rattle.cc_lists.specs.Sections.{section_lines}

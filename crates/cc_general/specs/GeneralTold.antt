@@ -1,5 +1,5 @@
 -- What a run over candidates tells, in order: its events, and the lines of its log.
-use Rattle.std.specs.Prelude.{ℕ, zero, suc, ◌+◌, false, List, [], ◌∷◌, ◌++◌, length, flat_map, map, codes}
+use Rattle.std.specs.Prelude.{ℕ, zero, suc, ◌+◌, false, List, [], ◌∷◌, ◌++◌, length, flat_map, map}
 use Rattle.cc_defs.specs.declared.event.Ending.{Ending}
 use Rattle.cc_defs.specs.declared.event.Ending.TheVariants as endings
 use Rattle.cc_defs.specs.declared.event.Event.TheVariants as events
@@ -8,9 +8,9 @@ use Rattle.cc_defs.specs.declared.log.LogLine.TheVariants as lines
 use Rattle.cc_defs.specs.LogTexts.{line_text}
 use Rattle.cc_defs.specs.Resolved.{Query}
 use Rattle.cc_defs.specs.Runs.{Section, optional, range_of, told, told_row}
-use Rattle.cc_defs.specs.Texts.{key_text}
 use Rattle.cc_general.specs.GeneralRuns.{GeneralEnding, Complete, Asked, NoneAtAll, SpentAmong, SpentOver, GeneralRun, Shown, general_horizon, rows_shown}
 use Rattle.cc_lists.specs.Sections.{section_lines}
+use Rattle.cc_silent.specs.GeneralLogs.{general_header, rivals_heading}
 
 -- ---- events, as those of a listing
 
@@ -38,10 +38,6 @@ general_told q run =
 
 -- ---- the log: a header, and then for each history, and for a search that was spent, a heading and the lines of its section
 
--- the heading of the rivals of a row, with its key
-abbrev pub rivals_heading : (horizon : ℕ) → List ℕ → List ℕ
-rivals_heading horizon row = codes "u " ++ key_text horizon row ++ 10 ∷ []
-
 abbrev pub rivals_text : (horizon : ℕ) → (row : List ℕ) → Section → List ℕ
 rivals_text horizon row section = rivals_heading horizon row ++ flat_map line_text (section_lines section)
 
@@ -54,9 +50,6 @@ spent_text horizon Asked = []
 spent_text horizon NoneAtAll = []
 spent_text horizon (SpentAmong section) = line_text (lines.Section false horizon) ++ flat_map line_text (section_lines section)
 spent_text horizon (SpentOver row section) = rivals_text horizon row section
-
-abbrev pub general_header : List ℕ
-general_header = codes "ccalc general 1" ++ 10 ∷ []
 
 abbrev pub general_log : Query → GeneralRun → List ℕ
 general_log q run =

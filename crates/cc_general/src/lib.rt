@@ -1,8 +1,7 @@
-//! Listing by the definition of a model, for laws with heads of any form (`General`), and the check of a log of what it found
-//! (`check_general`).
+//! Listing by the definition of a model, for laws with heads of any form (`General`). The check of a log of what it found
+//! (`check_general`) is that of cc_silent.
 #![tactic(auto)]
 
-mod check;
 mod general;
 mod halt;
 mod phase;
@@ -10,10 +9,8 @@ mod queue;
 pub mod theorems;
 mod turn;
 mod turns;
-mod verdict;
 
-pub use check::check_general;
+pub use cc_silent::{GeneralVerdict, check_general};
 pub use general::General;
 pub use turn::GeneralTurn;
 pub use turns::GeneralTurns;
-pub use verdict::GeneralVerdict;

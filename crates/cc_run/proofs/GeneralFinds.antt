@@ -11,7 +11,8 @@ use Rattle.cc_general.specs.declared.turn.GeneralTurn.{GeneralTurn}
 use Rattle.cc_general.specs.declared.turn.GeneralTurn.TheVariants as events
 use Rattle.cc_general.specs.GeneralRuns.{GeneralRun, IsFairGeneral, ReachesGeneralLimit}
 use Rattle.cc_general.specs.Generals.{GeneralView, GoesOn, HasMore, IsGeneralOf, IsGoodEvent, IsSame, IsWritable, Stands, TellsNext, left_of, nothing_told}
-use Rattle.cc_general.specs.GeneralTold.{general_header, general_log}
+use Rattle.cc_silent.specs.GeneralLogs.{general_header}
+use Rattle.cc_general.specs.GeneralTold.{general_log}
 use Rattle.cc_ports.specs.declared.desk.To.TheVariants as outputs
 use Rattle.cc_rivals.specs.Wides.{AreWideLawsOf}
 use Rattle.cc_tell.specs.declared.status.Status.{Status}

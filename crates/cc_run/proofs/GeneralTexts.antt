@@ -15,7 +15,8 @@ use Rattle.cc_general.specs.declared.turn.GeneralTurn.TheVariants as events
 use Rattle.cc_general.specs.GeneralRuns.{GeneralEnding, Complete, Asked, NoneAtAll, SpentAmong, SpentOver, GeneralRun, Shown, general_horizon}
 use Rattle.cc_general.specs.Accepted.{IsUnspentEnding}
 use Rattle.cc_general.specs.Generals.{GoesOnBy, IsSpentWith}
-use Rattle.cc_general.specs.GeneralTold.{ending_of, general_header, general_log, general_told, none_told, shown_text, shown_told, spent_text}
+use Rattle.cc_silent.specs.GeneralLogs.{general_header}
+use Rattle.cc_general.specs.GeneralTold.{ending_of, general_log, general_told, none_told, shown_text, shown_told, spent_text}
 use Rattle.cc_lists.specs.Sections.{section_lines}
 use Rattle.cc_run.specs.Generals.{generally_given}
 use Rattle.cc_run.specs.Modes.Generally.{EndsGenerally}

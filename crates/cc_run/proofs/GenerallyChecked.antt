@@ -9,7 +9,7 @@ use Rattle.cc_defs.specs.Limits.{limit_number}
 use Rattle.cc_defs.specs.Refusals.{past}
 use Rattle.cc_defs.specs.Resolved.{Query}
 use Rattle.cc_describe.specs.Places.{Files}
-use Rattle.cc_general.specs.GeneralLogs.{ProvesHistories, general_subject}
+use Rattle.cc_silent.specs.GeneralLogs.{ProvesHistories, general_subject}
 use Rattle.cc_ports.specs.Contents.{Contents}
 use Rattle.cc_ports.specs.Moments.{Moment}
 use Rattle.cc_run.specs.Modes.CheckingGeneral.{ChecksGeneral, NamesGeneralLog, RefusesCheckingGeneral, general_checking_promise, named_for_general}

@@ -20,7 +20,8 @@ use Rattle.cc_sure.specs.declared.phase.Phase.{Phase}
 use Rattle.cc_sure.specs.declared.phase.Phase.TheVariants as phases
 use Rattle.cc_sure.specs.SureRuns.{IsFairSure, ReachesSureLimit, SureRun, sure_horizon}
 use Rattle.cc_sure.specs.Sures.{Awaits, GoesOn, HasMore, IsFewTurn, IsGoodTurn, IsSame, IsShortTurn, IsSureOf, Stands, SureView, TellsNext, left_of, nothing_told}
-use Rattle.cc_sure.specs.SureTold.{sure_header, sure_log, sure_told}
+use Rattle.cc_silent.specs.SureLogs.{sure_header}
+use Rattle.cc_sure.specs.SureTold.{sure_log, sure_told}
 use Rattle.cc_tell.specs.declared.status.Status.{Status}
 use Rattle.cc_tell.specs.declared.status.Status.TheVariants as statuses
 use Rattle.cc_tell.specs.declared.status.Stop.{Stop}

@@ -22,11 +22,12 @@ use Rattle.cc_run.specs.Modes.Surely.{EndsSurely, sure_line}
 use Rattle.cc_run.specs.Sures.{IsWritableRun, surely_given}
 use Rattle.cc_sure.specs.declared.turn.SureTurn.{SureTurn}
 use Rattle.cc_sure.specs.declared.turn.SureTurn.TheVariants as events
-use Rattle.cc_sure.specs.Sought.{IsSought, PassesNoLimit, Sought, Any, With}
+use Rattle.cc_silent.specs.Sought.{IsSought, PassesNoLimit, Sought, Any, With}
 use Rattle.cc_sure.specs.SureRuns.{AreTrueSettled, AreTrueTried, IsFairSure, Settled, SureEnding, Complete, NoneAtAll, Spent, SureRun, Tried, Known, Shown, Never, settled_examples, shown_at, sought_next, sure_horizon}
 use Rattle.cc_sure.specs.Accepted.{IsWritableTold}
 use Rattle.cc_sure.specs.Sures.{GoesOn, IsFewTurn, IsGoodTurn, IsOver, IsShortTurn, IsSureTurn, SureView, sought_atom}
-use Rattle.cc_sure.specs.SureTold.{SureTold, NoneAt, ExampleIs, NeverSo, AnswersAre, Ends, atom_heading, none_told, settled_told, sought_heading, sure_header, sure_lines, sure_told, tried_told}
+use Rattle.cc_silent.specs.SureLogs.{atom_heading, sure_header}
+use Rattle.cc_sure.specs.SureTold.{SureTold, NoneAt, ExampleIs, NeverSo, AnswersAre, Ends, none_told, settled_told, sought_heading, sure_lines, sure_told, tried_told}
 use Rattle.cc_tell_modes.specs.SureTexts.{ending_line, IsPrintable, given_of, heading_of, status_behind}
 use Rattle.cc_tell.specs.Givens.{given_to, Given, joined}
 use Rattle.cc_list.proofs.GoodClauses.{in_first}

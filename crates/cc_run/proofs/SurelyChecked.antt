@@ -19,7 +19,7 @@ use Rattle.cc_run.specs.Modes.Surely.{NamesUnclaimed, RefusesClaimed}
 use Rattle.cc_list.specs.Promises.{Keeps, Promise}
 use Rattle.cc_list.specs.Stops.{Prints}
 use Rattle.cc_list.specs.Wholes.{Whole}
-use Rattle.cc_sure.specs.SureLogs.{RefutesAtoms, sure_subject}
+use Rattle.cc_silent.specs.SureLogs.{RefutesAtoms, sure_subject}
 use Rattle.cc_tell.specs.declared.status.Status.{Status}
 use Rattle.cc_tell.specs.declared.status.Stop.{Stop}
 use Rattle.cc_tell_modes.specs.SilentVerdicts.{silent_verdict_line, silent_verdict_status}

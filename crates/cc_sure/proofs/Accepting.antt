@@ -15,12 +15,12 @@ use Rattle.cc_lists.specs.Sections.{section_lines}
 use Rattle.cc_lists.proofs.AcceptedEmpty.{lines_within, section_found}
 use Rattle.cc_lists.proofs.AcceptedLines.{lines_cut}
 use Rattle.cc_lists.proofs.Members.{all_append, all_both}
-use Rattle.cc_sure.specs.declared.check.AtomHeading.{AtomHeading}
+use Rattle.cc_silent.specs.declared.sure.AtomHeading.{AtomHeading}
 use Rattle.cc_sure.specs.Accepted.{IsUnspent, IsUnspentEnding, IsWritableTold, SureLogsAreAccepted, never_of}
-use Rattle.cc_sure.specs.Sought.{PassesNoLimit, Sought, Any, With, sought_axioms}
-use Rattle.cc_sure.specs.SureLogs.{IsAtomHeading, IsInRange, sure_subject}
+use Rattle.cc_silent.specs.Sought.{PassesNoLimit, Sought, Any, With, sought_axioms}
+use Rattle.cc_silent.specs.SureLogs.{IsAtomHeading, IsInRange, atom_heading, sure_subject}
 use Rattle.cc_sure.specs.SureRuns.{Settled, SureEnding, Complete, NoneAtAll, Spent, SureRun, Tried, Known, Shown, Never, AreTrueSettled, AreTrueTried, IsFairSure, LooksFor, settled_examples, shown_at, sought_next, sure_horizon}
-use Rattle.cc_sure.specs.SureTold.{SureTold, NoneAt, ExampleIs, NeverSo, AnswersAre, Ends, atom_heading, none_told, settled_told, sure_lines, sure_told, tried_told}
+use Rattle.cc_sure.specs.SureTold.{SureTold, NoneAt, ExampleIs, NeverSo, AnswersAre, Ends, none_told, settled_told, sure_lines, sure_told, tried_told}
 use Rattle.cc_sure.proofs.AtomLines.{all_unread, heading_cut}
 
 module _ (d : Description) (q : Query) (budget horizon : ℕ) where

@@ -13,10 +13,10 @@ use Rattle.cc_lists.proofs.Members.{all_append, in_cases, in_none}
 use Rattle.cc_sure.specs.declared.answer.Answer.{Answer}
 use Rattle.cc_sure.specs.declared.answer.Answer.TheVariants as answers
 use Rattle.cc_sure.specs.Outcomes.{AreAnswersFor, IsAnswerFor, SomeHas}
-use Rattle.cc_sure.specs.Sought.{HasValue}
+use Rattle.cc_silent.specs.Sought.{HasValue}
 use Rattle.cc_sure.specs.SureRuns.{Settled, Tried, AreRightAnswers, IsFairSure, IsFirstWith, IsNew, IsRightAnswer, IsTrueSettled, examples_of, settled_examples, shown_at, shown_in}
 use Rattle.cc_sure.specs.Sures.{IsFormOf, is_never}
-use Rattle.cc_sure.proofs.Atoms.{index_at}
+use Rattle.cc_silent.proofs.Atoms.{index_at}
 use Rattle.cc_sure.proofs.Runs.{going}
 use Rattle.cc_sure.proofs.Told.{said_of}
 

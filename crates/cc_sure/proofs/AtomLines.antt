@@ -6,9 +6,8 @@ use Rattle.cc_defs.specs.declared.log.LogLine.TheVariants as lines
 use Rattle.cc_defs.specs.LogTexts.{IsShort, line_text, lines_in}
 use Rattle.cc_lists.proofs.AcceptedLines.{HasNoFeed, IsNoFeed, IsWithin, cut, digits, letter, letter_of}
 use Rattle.cc_lists.proofs.Members.{all_append, all_map}
-use Rattle.cc_sure.specs.declared.check.AtomHeading.{AtomHeading}
-use Rattle.cc_sure.specs.SureLogs.{IsAtomHeading}
-use Rattle.cc_sure.specs.SureTold.{atom_heading}
+use Rattle.cc_silent.specs.declared.sure.AtomHeading.{AtomHeading}
+use Rattle.cc_silent.specs.SureLogs.{IsAtomHeading, atom_heading}
 
 pub heading_cut : (horizon position value : ℕ) (rest : List ℕ) → IsShort horizon → IsShort position → IsShort value →
     lines_in (atom_heading horizon position value ++ rest) ≡ atom_heading horizon position value ∷ lines_in rest

@@ -10,7 +10,7 @@ use Rattle.cc_sure.specs.declared.event.SureEvent.{SureEvent}
 use Rattle.cc_sure.specs.declared.event.SureEvent.TheVariants as events
 use Rattle.cc_sure.specs.declared.turn.SureTurn.{SureTurn}
 use Rattle.cc_sure.specs.declared.turn.SureTurn.TheVariants as turns
-use Rattle.cc_sure.specs.Sought.{Sought, Any, With}
+use Rattle.cc_silent.specs.Sought.{Sought, Any, With}
 use Rattle.cc_sure.specs.SureEvents.{Finishes, IsEnd, heading_event, log_lines, sought_of, sure_events, told_events, turn_events}
 use Rattle.cc_sure.specs.SureRuns.{Settled, SureEnding, SureRun, Tried, settled_examples, sought_next, sure_horizon}
 use Rattle.cc_sure.specs.Sures.{GoesOn, HasMore, IsOver, SureView, sought_atom}

@@ -26,12 +26,12 @@ use Rattle.cc_sure.specs.declared.turn.SureTurn.{SureTurn}
 use Rattle.cc_sure.specs.declared.turn.SureTurn.TheVariants as turns
 use Rattle.cc_sure.specs.declared.phase.Phase.TheVariants as phases
 use Rattle.cc_sure.specs.Outcomes.{AreAnswersFor, SomeHas}
-use Rattle.cc_sure.specs.Sought.{HasValue, IsAtomAt, IsSought, Any, With, PassesNoLimit, sought_axioms}
+use Rattle.cc_silent.specs.Sought.{HasValue, IsAtomAt, IsSought, Any, With, PassesNoLimit, sought_axioms}
 use Rattle.cc_sure.specs.SureRuns.{Settled, SureEnding, Complete, NoneAtAll, Spent, SureRun, Tried, Known, Shown, Never, IsFairSure, IsNew, IsTrueTried, LooksFor, MayEndSure, examples_of, settled_examples, shown_by, shown_in}
 use Rattle.cc_sure.specs.SureTold.{SureTold, NoneAt, ExampleIs, NeverSo, AnswersAre, Ends, sure_told}
 use Rattle.cc_sure.specs.Sures.{AreFewTried, Gives, IsAsking, IsAt, IsFormOf, IsOpened, IsOver, IsSureTurn, IsSureOf, PassesTo, Stands, SureView, TellsNext, Awaits, is_never, left_at, left_of}
 use Rattle.cc_sure.proofs.Answering.{behind_cases, examples_still, settled_so}
-use Rattle.cc_sure.proofs.Atoms.{has_of}
+use Rattle.cc_silent.proofs.Atoms.{has_of}
 use Rattle.cc_sure.proofs.Opening.{any_ended, atom_ended, atom_found, atom_within, first_found, none_found}
 use Rattle.cc_sure.proofs.Runs.{IsEmptyAt, adds, asking_stands, at_first, begins_fair, begins_told, ending_told, ends_fair, going, looking_stands, passes_fair, passes_told, range_is, settles_fair, settles_told, tries_fair, tries_told}
 use Rattle.cc_sure.proofs.Told.{shown_more}

@@ -19,10 +19,10 @@ use Rattle.cc_form.specs.Forms.{TellsHistories, asked, form_of, section_refusal,
 use Rattle.cc_search.proofs.Moving.{first_moved, told_moved}
 use Rattle.cc_search.specs.declared.least.Outcome.TheVariants as outcomes
 use Rattle.cc_search.specs.Outcomes.{IsEnded, IsOutcome}
-use Rattle.cc_sure.specs.Sought.{HasValue, IsSought, PassesNoLimit, Any, With}
+use Rattle.cc_silent.specs.Sought.{HasValue, IsSought, PassesNoLimit, Any, With}
 use Rattle.cc_sure.specs.SureRuns.{LooksFor}
 use Rattle.cc_sure.specs.Sures.{IsFormOf, IsSureOf, SureView}
-use Rattle.cc_sure.proofs.Atoms.{atom_tells}
+use Rattle.cc_silent.proofs.Atoms.{atom_tells}
 use Rattle.cc_theory.specs.Theories.{AreLawsOf}
 
 -- ---- the axioms, as they are made of the fields

@@ -1,5 +1,5 @@
 -- When a run refuses, and what holds behind the values that examples have.
-use Rattle.std.proofs.Common.{◌≡◌, ◌∙◌, ℕ, ◌+◌, ◌<◌, ◌≤◌, List, [], ◌∷◌, ◌++◌, length, slice_get, Option, Some, None, Result, Ok, Err, IfOk, IfErr, IsErrAnd, refl, sym, subst, ap, arith, append-nil, append_assoc}
+use Rattle.std.proofs.Common.{◌≡◌, ◌∙◌, ℕ, ◌+◌, ◌<◌, ◌≤◌, List, [], ◌∷◌, ◌++◌, length, slice_get, Option, Some, None, Result, Ok, Err, IfOk, IfErr, refl, sym, subst, ap, arith, append-nil, append_assoc}
 use Rattle.std.specs.Prelude.{true, false}
 use Rattle.std.specs.Option.{option_or}
 use Rattle.cc_defs.specs.declared.refusal.Fault.{Fault}
@@ -16,16 +16,12 @@ use Rattle.cc_form.specs.Forms.{section_refusal, with_atom}
 use Rattle.cc_lists.proofs.Members.{all_append}
 use Rattle.cc_sure.specs.declared.turn.SureTurn.{SureTurn}
 use Rattle.cc_sure.specs.declared.phase.Phase.TheVariants as phases
-use Rattle.cc_sure.specs.Sought.{With, sought_refusal}
+use Rattle.cc_silent.specs.Sought.{With, sought_refusal}
 use Rattle.cc_sure.specs.SureRuns.{Settled, SureRun, Tried, Known, AreTrueTried, IsNew, IsToSearch, ReachesSureLimit, settled_examples, sought_next, sure_horizon}
-use Rattle.cc_sure.specs.Sures.{Gives, IsAsking, IsRightFault, IsSureOf, PassesTo, Stands, SureView, left_of}
+use Rattle.cc_sure.specs.Sures.{Gives, IsAsking, IsRightFault, IsSureOf, PassesTo, SureView, left_of}
 use Rattle.cc_sure.proofs.Giving.{atom_at, low_at, low_of, new_of_run, opened_of, tried_count}
 use Rattle.cc_sure.proofs.Runs.{asking_stands, going, looking_stands}
 use Rattle.cc_theory.specs.Theories.{AreLawsOf}
-
-pub errs_with : {T : Type 0} (P : Fault → Type 0) (r : Result T Fault) (fault : Fault) → IsErrAnd r (λ given. given ≡ fault) → P fault → IfErr r P
-errs_with P (Ok done) fault is so = tt
-errs_with P (Err given) fault is so = subst P (sym is) so
 
 -- ---- the axioms of a horizon pass a limit
 

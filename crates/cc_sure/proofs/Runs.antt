@@ -9,7 +9,7 @@ use Rattle.cc_defs.specs.Resolved.{Query}
 use Rattle.cc_defs.specs.Runs.{HasNone, range_of}
 use Rattle.cc_sure.specs.declared.answer.Answer.{Answer}
 use Rattle.cc_sure.specs.declared.phase.Phase.TheVariants as phases
-use Rattle.cc_sure.specs.Sought.{IsAtomAt, PassesNoLimit, Any}
+use Rattle.cc_silent.specs.Sought.{IsAtomAt, PassesNoLimit, Any}
 use Rattle.cc_sure.specs.SureRuns.{Settled, SureEnding, SureRun, Tried, IsFairSure, IsTrueSettled, IsTrueTried, MayEndSure, examples_of, settled_examples, shown_at, shown_in}
 use Rattle.cc_sure.specs.SureTold.{SureTold, NoneAt, ExampleIs, AnswersAre, none_told, settled_told, sure_told, tried_told}
 use Rattle.cc_sure.specs.Sures.{IsAt, IsSureOf, Stands, SureView}

@@ -4,7 +4,7 @@ use Rattle.cc_defs.specs.Runs.{Section}
 use Rattle.cc_lists.specs.Sections.{section_lines}
 use Rattle.cc_sure.specs.declared.turn.SureTurn.{SureTurn}
 use Rattle.cc_sure.specs.declared.turn.SureTurn.TheVariants as turns
-use Rattle.cc_sure.specs.Sought.{Sought}
+use Rattle.cc_silent.specs.Sought.{Sought}
 use Rattle.cc_sure.specs.SureRuns.{Complete, NoneAtAll, Spent}
 use Rattle.cc_sure.specs.SureTold.{SureTold, NoneAt, ExampleIs, NeverSo, AnswersAre, Ends}
 use Rattle.cc_sure.specs.Sures.{IsSureTurn, sought_atom}

@@ -9,7 +9,7 @@ use Rattle.cc_defs.specs.Resolved.{Query}
 use Rattle.cc_defs.specs.Runs.{Section}
 use Rattle.cc_lists.proofs.Members.{in_first, in_none}
 use Rattle.cc_sure.specs.Outcomes.{SomeHas}
-use Rattle.cc_sure.specs.Sought.{HasValue, IsAtomAt, IsSought, With}
+use Rattle.cc_silent.specs.Sought.{HasValue, IsAtomAt, IsSought, With}
 use Rattle.cc_sure.specs.SureRuns.{Settled, Tried, Known, Shown, Never, AreTrueSettled, AreTrueTried, IsTrueSettled, IsTrueTried, shown_at, shown_by, shown_in}
 use Rattle.cc_sure.specs.SureTold.{SureTold, ExampleIs, NeverSo, AnswersAre, none_told, NoneAt, settled_told, tried_told}
 use Rattle.cc_sure.specs.Sures.{is_never}

@@ -8,8 +8,8 @@ use Rattle.cc_defs.specs.LogTexts.{IsFormed, IsShort}
 use Rattle.cc_defs.specs.Resolved.{Query}
 use Rattle.cc_lists.specs.Sections.{section_lines}
 use Rattle.cc_lists.specs.Subjects.{AreGoodAxioms}
-use Rattle.cc_sure.specs.Sought.{With, sought_axioms}
-use Rattle.cc_sure.specs.SureLogs.{sure_subject}
+use Rattle.cc_silent.specs.Sought.{With, sought_axioms}
+use Rattle.cc_silent.specs.SureLogs.{sure_subject}
 use Rattle.cc_sure.specs.SureRuns.{IsFairSure, SureEnding, Complete, NoneAtAll, Spent, SureRun, sure_horizon}
 use Rattle.cc_sure.specs.SureTold.{SureTold, NoneAt, ExampleIs, NeverSo, AnswersAre, Ends, sure_log, sure_told}
 

@@ -2,7 +2,7 @@
 use Rattle.std.specs.Prelude.{◌≡◌, ◌≢◌, ℕ, ◌+◌, ◌<◌, Bool, true, false, List, [], ◌∷◌, Contains, length, slice_get, Some}
 use Rattle.cc_sure.specs.declared.answer.Answer.{Answer}
 use Rattle.cc_sure.specs.declared.answer.Answer.TheVariants as answers
-use Rattle.cc_sure.specs.Sought.{HasValue}
+use Rattle.cc_silent.specs.Sought.{HasValue}
 use Rattle.cc_sure.specs.SureRuns.{IsFirstWith}
 
 -- some example has the atom

@@ -13,7 +13,7 @@ use Rattle.cc_sure.specs.declared.event.SureEvent.{SureEvent}
 use Rattle.cc_sure.specs.declared.event.SureEvent.TheVariants as events
 use Rattle.cc_sure.specs.declared.turn.SureTurn.{SureTurn}
 use Rattle.cc_sure.specs.declared.turn.SureTurn.TheVariants as turns
-use Rattle.cc_sure.specs.Sought.{Sought, Any, With}
+use Rattle.cc_silent.specs.Sought.{Sought, Any, With}
 use Rattle.cc_sure.specs.SureRuns.{SureRun, Complete, NoneAtAll, Spent, ReachesSureLimit, sure_horizon}
 use Rattle.cc_sure.specs.SureTold.{SureTold, NoneAt, ExampleIs, NeverSo, AnswersAre, Ends, sure_told}
 use Rattle.cc_sure.specs.Sures.{IsOver, IsSame, IsSureOf, Stands, SureView, left_of}

@@ -7,7 +7,7 @@ use Rattle.cc_defs.specs.Description.{Description, sizes_at}
 use Rattle.cc_defs.specs.Histories.{AreFirst, AreFirstOf, IsHistory}
 use Rattle.cc_defs.specs.Resolved.{Query}
 use Rattle.cc_defs.specs.Runs.{EndsWith, HasNone, Section, TellsRows, optional, range_of, rows_of}
-use Rattle.cc_sure.specs.Sought.{HasValue, IsAtomAt, IsSought, PassesNoLimit, Sought, Any, With, sought_axioms, sought_refusal}
+use Rattle.cc_silent.specs.Sought.{HasValue, IsAtomAt, IsSought, PassesNoLimit, Sought, Any, With, sought_axioms, sought_refusal}
 use Rattle.cc_sure.specs.declared.answer.Answer.{Answer}
 use Rattle.cc_sure.specs.declared.answer.Answer.TheVariants as answers
 

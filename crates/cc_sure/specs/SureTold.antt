@@ -1,11 +1,12 @@
 -- What a run on certain and possible atoms tells, in order: its events, and the lines of its log.
-use Rattle.std.specs.Prelude.{ℕ, zero, suc, ◌+◌, false, List, [], ◌∷◌, ◌++◌, length, flat_map, map, codes, decimal}
+use Rattle.std.specs.Prelude.{ℕ, zero, suc, ◌+◌, false, List, [], ◌∷◌, ◌++◌, length, flat_map, map}
 use Rattle.cc_defs.specs.declared.log.LogLine.TheVariants as lines
 use Rattle.cc_defs.specs.LogTexts.{line_text}
 use Rattle.cc_defs.specs.Resolved.{Query}
 use Rattle.cc_defs.specs.Runs.{Section, optional, range_of}
 use Rattle.cc_lists.specs.Sections.{section_lines}
-use Rattle.cc_sure.specs.Sought.{Sought, Any, With}
+use Rattle.cc_silent.specs.Sought.{Sought, Any, With}
+use Rattle.cc_silent.specs.SureLogs.{atom_heading, sure_header}
 use Rattle.cc_sure.specs.SureRuns.{Settled, SureEnding, Complete, NoneAtAll, Spent, SureRun, Tried, Known, Shown, Never, settled_examples, shown_at, sought_next, sure_horizon}
 use Rattle.cc_sure.specs.declared.answer.Answer.{Answer}
 
@@ -46,10 +47,6 @@ sure_told q run =
 
 -- ---- the log: a header, and then for each impossible atom, and for a search that was spent, a heading and the lines of its section
 
--- the heading of an atom: its horizon, its position and the index of its value
-abbrev pub atom_heading : (horizon position value : ℕ) → List ℕ
-atom_heading horizon position value = codes "a " ++ decimal horizon ++ codes " " ++ decimal position ++ codes " " ++ decimal value ++ 10 ∷ []
-
 -- that of a search
 abbrev pub sought_heading : (horizon : ℕ) → Sought → List ℕ
 sought_heading horizon Any = line_text (lines.Section false horizon)
@@ -67,9 +64,6 @@ sure_lines horizon (AnswersAre position answers) = []
 sure_lines horizon (Ends sought Complete) = []
 sure_lines horizon (Ends sought NoneAtAll) = []
 sure_lines horizon (Ends sought (Spent section)) = section_text horizon sought section
-
-abbrev pub sure_header : List ℕ
-sure_header = codes "ccalc sure 1" ++ 10 ∷ []
 
 abbrev pub sure_log : Query → SureRun → List ℕ
 sure_log q run = sure_header ++ flat_map (sure_lines (sure_horizon q run)) (sure_told q run)

@@ -19,7 +19,7 @@ use Rattle.cc_form.specs.Queries.{IsQueryAt}
 use Rattle.cc_lists.specs.Sections.{section_lines}
 use Rattle.cc_lists.specs.Subjects.{AreGoodAxioms}
 use Rattle.cc_sure.specs.Outcomes.{SomeHas}
-use Rattle.cc_sure.specs.Sought.{Sought, Any, With, sought_axioms}
+use Rattle.cc_silent.specs.Sought.{Sought, Any, With, sought_axioms}
 use Rattle.cc_sure.specs.SureRuns.{IsFairSure, ReachesSureLimit, SureRun, Tried, Known, Shown, Never, Complete, NoneAtAll, Spent, examples_of, sure_horizon}
 use Rattle.cc_sure.specs.SureTold.{SureTold, NoneAt, ExampleIs, NeverSo, AnswersAre, Ends, sure_told}
 use Rattle.cc_sure.specs.declared.turn.SureTurn.{SureTurn}

@@ -3,7 +3,7 @@ ghost use Rattle.std.specs.Prelude.{◌≡◌, ◌≢◌, ◌≤◌, ◌<◌, �
 ghost use Rattle.std.specs.Bool.{MatchBool};
 ghost use Rattle.cc_defs.specs.Limits.{most_variables};
 ghost use Rattle.cc_sure.specs.Outcomes.{AreAnswersFor, IsAnswerFor, SomeHas};
-ghost use Rattle.cc_sure.specs.Sought.{HasValue};
+ghost use Rattle.cc_silent.specs.Sought.{HasValue};
 ghost use Rattle.cc_sure.specs.SureRuns.{IsFirstWith, IsNew};
 
 use crate::answer::Answer;

@@ -10,7 +10,7 @@ use Rattle.cc_defs.specs.LogTexts.{line_text}
 use Rattle.cc_defs.specs.Runs.{told, told_row}
 use Rattle.cc_general.specs.declared.turn.GeneralTurn.{GeneralTurn}
 use Rattle.cc_general.specs.declared.turn.GeneralTurn.TheVariants as events
-use Rattle.cc_general.specs.GeneralTold.{rivals_heading}
+use Rattle.cc_silent.specs.GeneralLogs.{rivals_heading}
 use Rattle.cc_tell.specs.declared.status.Status.{Status}
 use Rattle.cc_tell.specs.declared.status.Status.TheVariants as statuses
 use Rattle.cc_tell.specs.Statuses.{status_of}

@@ -17,7 +17,7 @@ use Rattle.cc_sure.specs.declared.answer.Answer.TheVariants as answers
 use Rattle.cc_sure.specs.declared.turn.SureTurn.{SureTurn}
 use Rattle.cc_sure.specs.declared.turn.SureTurn.TheVariants as events
 use Rattle.cc_sure.specs.SureRuns.{SureEnding, Complete, NoneAtAll, Spent}
-use Rattle.cc_sure.specs.SureTold.{atom_heading}
+use Rattle.cc_silent.specs.SureLogs.{atom_heading}
 use Rattle.cc_tell.specs.declared.status.Status.{Status}
 use Rattle.cc_tell.specs.declared.status.Status.TheVariants as statuses
 use Rattle.cc_tell.specs.Givens.{given_to, Given}

@@ -13,7 +13,7 @@ ghost use Rattle.cc_ports.specs.declared.desk.To.TheVariants as outputs;
 ghost use Rattle.cc_print.specs.Atoms.{IsAtomOf};
 ghost use Rattle.cc_print.specs.Atoms as atoms;
 ghost use Rattle.cc_sorts.specs.Tables.{IsSignatureFor};
-ghost use Rattle.cc_sure.specs.SureTold.{atom_heading};
+ghost use Rattle.cc_silent.specs.SureLogs.{atom_heading};
 ghost use Rattle.cc_tell.specs.Names.{AreNamesOf};
 ghost use Rattle.cc_tell_modes.specs.SureTexts.{answer_lines, answer_words, IsPrintable, given_of, heading_of};
 ghost use Rattle.cc_tell.specs.Steps.{Step};

@@ -8,7 +8,7 @@ ghost use Rattle.cc_defs.specs.Rows.{IsRow};
 ghost use Rattle.cc_defs.specs.Runs.{told};
 ghost use Rattle.cc_form.specs.Places.{position_sizes};
 ghost use Rattle.cc_general.specs.declared.turn.GeneralTurn.TheVariants as events;
-ghost use Rattle.cc_general.specs.GeneralTold.{rivals_heading};
+ghost use Rattle.cc_silent.specs.GeneralLogs.{rivals_heading};
 ghost use Rattle.cc_general.specs.Generals.{IsWritable};
 ghost use Rattle.cc_ports.specs.declared.desk.To.TheVariants as outputs;
 ghost use Rattle.cc_sorts.specs.Tables.{IsSignatureFor};

@@ -11,7 +11,7 @@ use Rattle.cc_defs.specs.Resolved.{Query}
 use Rattle.cc_describe.specs.declared.heads.Heads.TheVariants as heads
 use Rattle.cc_describe.specs.Describing.{AreToOpen}
 use Rattle.cc_describe.specs.Places.{Files}
-use Rattle.cc_general.specs.GeneralLogs.{ProvesHistories, general_subject}
+use Rattle.cc_silent.specs.GeneralLogs.{ProvesHistories, general_subject}
 use Rattle.cc_run.specs.Modes.CheckingSure.{MayEndCheckingSure}
 use Rattle.cc_run.specs.Modes.Generally.{NamesWide, RefusesGenerally}
 use Rattle.cc_list.specs.Promises.{Promise}

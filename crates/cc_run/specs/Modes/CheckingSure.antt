@@ -16,7 +16,7 @@ use Rattle.cc_run.specs.Modes.Surely.{NamesUnclaimed, RefusesClaimed}
 use Rattle.cc_list.specs.Promises.{Promise, IsEndStatus}
 use Rattle.cc_list.specs.Tasks.{Named}
 use Rattle.cc_list.specs.Wholes.{Whole}
-use Rattle.cc_sure.specs.SureLogs.{RefutesAtoms, sure_subject}
+use Rattle.cc_silent.specs.SureLogs.{RefutesAtoms, sure_subject}
 use Rattle.cc_tell.specs.declared.status.Status.{Status}
 use Rattle.cc_tell.specs.declared.status.Status.TheVariants as statuses
 use Rattle.cc_tell.specs.Givens.{only_out}

@@ -12,7 +12,7 @@ use Rattle.cc_describe.specs.Describing.{AreToOpen, wide_behind}
 use Rattle.cc_describe.specs.FirstRefusal.{declared_in, file_named}
 use Rattle.cc_describe.specs.Places.{Files, Place, opened_in}
 use Rattle.cc_general.specs.Accepted.{IsUnspent}
-use Rattle.cc_general.specs.GeneralLogs.{general_subject}
+use Rattle.cc_silent.specs.GeneralLogs.{general_subject}
 use Rattle.cc_general.specs.GeneralRuns.{GeneralEnding, GeneralRun, IsFairGeneral, ReachesGeneralLimit, general_horizon}
 use Rattle.cc_general.specs.GeneralTold.{ending_of, general_log, general_told}
 use Rattle.cc_tell.specs.declared.status.Status.{Status}

@@ -16,7 +16,7 @@ use Rattle.cc_list.specs.Promises.{Promise, IsEndStatus}
 use Rattle.cc_list.specs.Tasks.{AreRead, Named, RefusesDescription, RefusesQuery, asked_refusal, description_in, queries_in, query_named}
 use Rattle.cc_list.specs.Wholes.{Whole}
 use Rattle.cc_sure.specs.Accepted.{IsUnspent, never_told}
-use Rattle.cc_sure.specs.SureLogs.{sure_subject}
+use Rattle.cc_silent.specs.SureLogs.{sure_subject}
 use Rattle.cc_sure.specs.SureRuns.{IsFairSure, ReachesSureLimit, SureEnding, Complete, NoneAtAll, Spent, SureRun, sure_horizon}
 use Rattle.cc_sure.specs.SureTold.{SureTold, NoneAt, ExampleIs, NeverSo, AnswersAre, Ends, sure_log, sure_told}
 use Rattle.cc_tell.specs.declared.status.Status.{Status}

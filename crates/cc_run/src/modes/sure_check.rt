@@ -22,7 +22,7 @@ use cc_defs::{Fault, LimitAt, Refusal};
 use cc_describe::Described;
 use cc_list::Prepared;
 use cc_ports::{Desk, ReadStop, read_all};
-use cc_sure::check_sure;
+use cc_silent::check_sure;
 use cc_tell::{Status, Stop, file_named, refuse};
 use cc_tell_modes::tell_silent_verdict;
 use cc_words::CheckSureAsked;

@@ -1,7 +1,7 @@
 use Rattle.std.proofs.Common.{refl}
 use Rattle.cc_general.specs.GeneralEvents.{IsRightFaultBehind}
 use Rattle.cc_general.proofs.HandingOut.{fault_of, some_event, turned_of, turned_queue}
-use Rattle.cc_general.proofs.Walking.{errs_with}
+use Rattle.cc_silent.proofs.Errors.{errs_with}
 use Rattle.cc_general.proofs.general.General.turn.Goals as goal
 
 pub returns-in_err-turn-clause-refused : goal.returns-in_err-turn-clause-refused

@@ -1,6 +1,6 @@
 use Rattle.cc_general.specs.Generals.{IsRightFault}
 use Rattle.cc_general.proofs.Telling.{all_begun_fault, all_begun_gives, begun_ready, form_fault}
-use Rattle.cc_general.proofs.Walking.{errs_with}
+use Rattle.cc_silent.proofs.Errors.{errs_with}
 use Rattle.cc_general.proofs.turns.GeneralTurns.begin.Goals as goal
 
 pub returns-in_err-search-clause-fault : goal.returns-in_err-search-clause-fault

@@ -2,7 +2,7 @@ use Rattle.std.proofs.Common.{None, [], subst}
 use Rattle.cc_defs.specs.Refusals.{IsRefusedBy}
 use Rattle.cc_general.specs.Generals.{GeneralView}
 use Rattle.cc_general.proofs.Opened.{among_first}
-use Rattle.cc_general.proofs.Walking.{errs_with}
+use Rattle.cc_silent.proofs.Errors.{errs_with}
 use Rattle.cc_general.proofs.turns.GeneralTurns.begun.Goals as goal
 use Rattle.cc_lists.specs.Sections.{open_section}
 use Rattle.cc_search.specs.Searches.{Stands}

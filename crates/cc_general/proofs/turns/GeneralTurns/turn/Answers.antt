@@ -1,5 +1,6 @@
 use Rattle.cc_general.specs.Walks.{IsWalkFault}
-use Rattle.cc_general.proofs.Walking.{end_comes, errs_with, line_comes, not_found, row_comes, row_fault, row_fits, search_fault}
+use Rattle.cc_silent.proofs.Errors.{errs_with}
+use Rattle.cc_general.proofs.Walking.{end_comes, line_comes, not_found, row_comes, row_fault, row_fits, search_fault}
 use Rattle.cc_general.proofs.turns.GeneralTurns.turn.Goals as goal
 
 pub returns-in_err-line-clause-fault : goal.returns-in_err-line-clause-fault

@@ -1,5 +1,5 @@
 use Rattle.std.proofs.Common.{[], refl}
-use Rattle.cc_general.specs.GeneralLogs.{as_silent}
+use Rattle.cc_silent.specs.GeneralLogs.{as_silent}
 use Rattle.cc_run.proofs.GenerallyChecked.{prints_general_verdict, refuses_section}
 use Rattle.cc_list.proofs.Outcomes.{prints_lacking, prints_refusal}
 use Rattle.cc_run.proofs.modes.general_check.check_log.Goals as goal

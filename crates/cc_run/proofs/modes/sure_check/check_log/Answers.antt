@@ -1,5 +1,5 @@
 use Rattle.std.proofs.Common.{[], refl}
-use Rattle.cc_sure.specs.SureLogs.{as_silent}
+use Rattle.cc_silent.specs.SureLogs.{as_silent}
 use Rattle.cc_list.proofs.Outcomes.{prints_lacking, prints_refusal}
 use Rattle.cc_run.proofs.SurelyChecked.{prints_sure_verdict, refuses_section}
 use Rattle.cc_run.proofs.modes.sure_check.check_log.Goals as goal

@@ -1,5 +1,6 @@
 use Rattle.cc_sure.specs.Sures.{IsRightFault}
-use Rattle.cc_sure.proofs.Refusing.{errs_with, form_fault}
+use Rattle.cc_silent.proofs.Errors.{errs_with}
+use Rattle.cc_sure.proofs.Refusing.{form_fault}
 use Rattle.cc_sure.proofs.turns.SureTurns.look_at.Goals as goal
 
 pub returns-in_err-form-clause-fault : goal.returns-in_err-form-clause-fault

@@ -1,0 +1,9 @@
+pub mod AcceptedSilent
+pub mod Atoms
+pub mod Errors
+pub mod GeneralChecking
+pub mod Refuting
+pub mod RivalHeadings
+pub mod RowTexts
+pub mod SureChecking
+pub mod SureHeadings

@@ -1,0 +1,5 @@
+pub mod GeneralLogs
+pub mod RivalParts
+pub mod Sought
+pub mod SureLogs
+pub mod SureParts

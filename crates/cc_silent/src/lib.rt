@@ -1,0 +1,14 @@
+//! The judges of logs of silent sections: of a log of what is impossible, which sure mode writes (`check_sure`), and of a log of rivals,
+//! which general mode writes (`check_general`). They stand on no crate of the search.
+#![tactic(auto)]
+
+mod general;
+mod general_verdict;
+mod parts;
+mod sure;
+mod sure_verdict;
+
+pub use general::check_general;
+pub use general_verdict::GeneralVerdict;
+pub use sure::{AtomHeading, check_sure};
+pub use sure_verdict::SureVerdict;
