@@ -85,7 +85,7 @@ impl<'a> Model for SureTurns<'a> {
 }
 
 /// How many values a position has, where the axioms have it.
-pub(crate) fn size_at(form: &Form, position: u64) -> Option<u32>
+fn size_at(form: &Form, position: u64) -> Option<u32>
     ensures { result ≡ slice_get form.now.sizes position }
 {
     form.sizes().get(position as usize).copied()
