@@ -74,9 +74,9 @@ task_read o source by described of q key named count budget =
 
 -- ---- what is refused
 
-pub stopped_refuses : (which : Heads) (files : Files) (by : Named) (refusal : Refusal) (file : Text) → HasStopped which files by.file (describe_stops.Refused refusal file) →
-    RefusesDescriptionFor which files by refusal file
-stopped_refuses which files by refusal file stopped =
+pub stopped_refuses : (which : Heads) (files : Files) (main : Text) (refusal : Refusal) (file : Text) → HasStopped which files main (describe_stops.Refused refusal file) →
+    RefusesDescriptionFor which files main refusal file
+stopped_refuses which files main refusal file stopped =
     record { places = stopped.0; all = stopped.1; refused = stopped.2; there = stopped.4; name = stopped.3 }
 
 pub named_refused : (files : Files) (by : Named) (places : List Place) (described : Described) (refusal : Refusal) (file : Text) → IsDescribed heads.Definite places described →

@@ -4,13 +4,12 @@ use Rattle.std.specs.Prelude.{◌&&◌, option_and_then}
 use Rattle.std.proofs.lemmas.Bool.{leb-true}
 use Rattle.cc_defs.specs.Grammar.{number_of}
 use Rattle.cc_defs.specs.Tokens.{is_number}
-use Rattle.cc_list.specs.Bounds.{IsWithin}
+use Rattle.cc_words.specs.Requests.{IsWithin, Request, asked_in, asked_of, budget_of, count_of, form_of, has_plain_name, mode_of, number_from_zero, number_up_to, optional, provided, suits, valued}
 use Rattle.cc_list.specs.Tasks.{request_of}
 use Rattle.cc_words.specs.declared.asked.Asked.{Asked}
 use Rattle.cc_words.specs.Readings.{reading}
 use Rattle.cc_words.specs.declared.modes.Mode.{Mode}
 use Rattle.cc_words.specs.declared.modes.Mode.TheVariants as modes
-use Rattle.cc_words.specs.Requests.{Request, asked_in, asked_of, budget_of, count_of, form_of, has_plain_name, mode_of, number_from_zero, number_up_to, optional, provided, suits, valued}
 use Rattle.cc_words.specs.Views.{plain_asked, plain_request}
 use Rattle.cc_words.specs.Words.{Given, Text}
 

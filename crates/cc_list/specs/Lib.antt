@@ -1,6 +1,5 @@
 pub mod Answers
 pub mod Asking
-pub mod Bounds
 pub mod Descriptions
 pub mod Laws
 pub mod Listing

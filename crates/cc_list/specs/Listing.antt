@@ -11,21 +11,7 @@ use Rattle.cc_list.specs.Searching.{IsTold}
 use Rattle.cc_list.specs.Tasks.{IsTask, RefusesNamed, Task, named_by}
 use Rattle.cc_list.specs.Wholes.{Whole}
 use Rattle.cc_tell.specs.Manners.{Manner, OneByOne}
-use Rattle.cc_words.specs.declared.asked.ListAsked.{ListAsked}
 use Rattle.cc_words.specs.Requests.{Listing}
-use Rattle.cc_words.specs.Views.{plain_text}
-
--- what is asked for, in plain words
-abbrev pub listing_by : ListAsked → Listing
-listing_by list = record {
-  file = list.file.now;
-  query = plain_text list.query;
-  count = list.count;
-  budget = list.budget;
-  after = plain_text list.after;
-  log = plain_text list.log;
-  form = list.form;
-}
 
 -- how a listing is told: event by event, with a log in the version that is asked for
 abbrev pub listed_as : Listing → Task → Manner

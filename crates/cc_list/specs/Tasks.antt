@@ -93,15 +93,15 @@ abbrev pub AreRead : Files → (file : Text) → List Place → Type 0
 AreRead files file places = AreReadFor heads.Definite files file places
 
 -- The refusal of what is named, and the name of the file that it speaks of: the first of the description,
-pub record RefusesDescriptionFor (which : Heads) (files : Files) (named : Named) (refusal : Refusal) (file : Text) : Type 0 where
+pub record RefusesDescriptionFor (which : Heads) (files : Files) (main : Text) (refusal : Refusal) (file : Text) : Type 0 where
   pub places : List Place
-  pub all : AreAllPlaces files named.file places
+  pub all : AreAllPlaces files main places
   pub refused : first_refusal which places ≡ Some refusal
   pub there : AreThere files (opened_until which [] places)
   pub name : file ≡ file_named (opened_until which [] places) refusal
 
 abbrev pub RefusesDescription : Files → Named → Refusal → Text → Type 0
-RefusesDescription files named refusal file = RefusesDescriptionFor heads.Definite files named refusal file
+RefusesDescription files named refusal file = RefusesDescriptionFor heads.Definite files named.file refusal file
 
 -- then that of its laws and the query,
 pub record RefusesQuery (files : Files) (named : Named) (refusal : Refusal) (file : Text) : Type 0 where

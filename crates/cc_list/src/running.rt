@@ -1,6 +1,7 @@
 //! A run from its words to its exit, where the words ask for list mode.
 ghost use Rattle.std.specs.Prelude.{◌≤◌, IfSome, map, string_bytes};
-ghost use Rattle.cc_list.specs.Listing.{listing_by, listing_promise};
+ghost use Rattle.cc_list.specs.Listing.{listing_promise};
+ghost use Rattle.cc_words.specs.Views.{listing_by};
 ghost use Rattle.cc_list.specs.Promises.{refused_words};
 ghost use Rattle.cc_list.specs.WholeRuns.{AnswersWords, RunsBy};
 

@@ -104,9 +104,14 @@ module _ (o : Option Contents) (by : Named) (described : Described) (of : IsRead
     name = name ∙ ap (λ names. file_named names refusal) of.said.names;
   }))
 
-  pub refuses_claimed : (refusal : Refusal) (file : Text) → file ≡ file_named described.files refusal →
+  refuses_claimed : (refusal : Refusal) (file : Text) → file ≡ file_named described.files refusal →
       IsClaimFault (description_in of.places) (map plain_query described.queries) by.query (faults.Refused refusal) →
       IfSome o (λ before. RefusesClaimed before.files by refusal file)
   refuses_claimed refusal file name fault =
       known o (λ before. AreRead before.files by.file of.places) (λ before. RefusesClaimed before.files by refusal file)
       (λ before read. refuses_of before.files refusal file read name fault) of.read
+
+  pub claim_refuses : (fault : Fault) → IsClaimFault (description_in of.places) (map plain_query described.queries) by.query fault → (refusal : Refusal) → fault ≡ faults.Refused refusal →
+      IfSome o (λ before. RefusesClaimed before.files by refusal (file_named described.files refusal))
+  claim_refuses fault is refusal same =
+      refuses_claimed refusal (file_named described.files refusal) refl (subst (IsClaimFault (description_in of.places) (map plain_query described.queries) by.query) same is)

@@ -42,7 +42,7 @@ use Rattle.cc_run.specs.Converted.{AreLeft, HasLeft, HasOpened, IsJudged, conver
 use Rattle.cc_list.specs.Promises.{Keeps, log_asked}
 use Rattle.cc_list.specs.Stops.{Asks, Prints, outcome}
 use Rattle.cc_list.specs.Telling.{counts_of, task_to_check}
-use Rattle.cc_run.specs.Modes.Checking.{NamesLog, verdict_status}
+use Rattle.cc_run.specs.Modes.Checking.{NamesLogOf, verdict_status}
 use Rattle.cc_run.specs.Modes.Converting.{Converts, IsConverted, converting_promise}
 use Rattle.cc_list.specs.Names.{IsAnswer}
 use Rattle.cc_run.specs.Naming.{checked_by}
@@ -389,7 +389,7 @@ ended_as verdict (Ok status) is = ap Some (sym is)
 ended_as verdict (Err stop) is = tt
 
 module _ (converting : Converting) (d : Description) (q : Query) (key : Option Key) (bytes : List ℕ) where
-  gives_whole : (files : Files) (verdict : LogVerdict) (whole : Whole) → NamesLog files (checked_by converting) (task_to_check d q key) bytes → IsJudged d q key bytes verdict →
+  gives_whole : (files : Files) (verdict : LogVerdict) (whole : Whole) → NamesLogOf files (checked_by converting) (task_to_check d q key) bytes → IsJudged d q key bytes verdict →
       IsConverted (subject_of d q key) bytes verdict whole → whole.ends ≡ Some (verdict_status verdict) → Keeps (converting_promise converting) files whole
   gives_whole files verdict whole named judged converted ends = inr converts
     where
@@ -409,11 +409,11 @@ module _ (converting : Converting) (d : Description) (q : Query) (key : Option K
 
   -- a log that is refused: no other is begun
   pub prints_refused_log : (verdict : LogVerdict) (line : ℕ) (reason : Cause) (x z : Moment) (r : Result Status Stop) → verdict ≡ verdicts.Refused line reason →
-      IfSome x.told (λ c. NamesLog c.files (checked_by converting) (task_to_check d q key) bytes) → IsJudged d q key bytes verdict →
+      IfSome x.told (λ c. NamesLogOf c.files (checked_by converting) (task_to_check d q key) bytes) → IsJudged d q key bytes verdict →
       Step (only_out (verdict_line verdict)) x z r → IfOk r (λ status. status ≡ verdict_status verdict) → Prints (converting_promise converting) true [] x z r
   prints_refused_log verdict line reason x z r is named judged step status =
       prints_whole (converting_promise converting) true [] whole x z r
-      (known x.told (λ c. NamesLog c.files (checked_by converting) (task_to_check d q key) bytes) (λ c. Keeps (converting_promise converting) c.files whole)
+      (known x.told (λ c. NamesLogOf c.files (checked_by converting) (task_to_check d q key) bytes) (λ c. Keeps (converting_promise converting) c.files whole)
       (λ c log. gives_whole c.files verdict whole log judged (subst (λ (v : LogVerdict). IsConverted (subject_of d q key) bytes v (of v)) (sym is) (refl, refl)) refl) named)
       refl step (ended_as verdict r status) (ends_as converting verdict r status) asks
     where
@@ -440,12 +440,12 @@ module _ (converting : Converting) (d : Description) (q : Query) (key : Option K
   -- a log that is accepted: its other version is given to the one that is begun
   pub prints_accepted_log : {X : Type 0} → OtherVersionsAreJudgedAlike → (verdict : LogVerdict) (first last blocked : ℕ) (names : List Text) (x y z : Moment) (b : Result X Stop) (v : X)
       (r : Result Status Stop) (says : SaysLines d q key bytes) → verdict ≡ verdicts.Accepted first last blocked → names ≡ converting.to ∷ [] →
-      IfSome x.told (λ c. NamesLog c.files (checked_by converting) (task_to_check d q key) bytes) → IsJudged d q key bytes verdict → Begins true names x y b → b ≡ Ok v →
+      IfSome x.told (λ c. NamesLogOf c.files (checked_by converting) (task_to_check d q key) bytes) → IsJudged d q key bytes verdict → Begins true names x y b → b ≡ Ok v →
       Step (converted_by verdict (other_said d q key bytes says)) y z r → IfOk r (λ status. status ≡ verdict_status verdict) → Prints (converting_promise converting) true [] x z r
   prints_accepted_log law verdict first last blocked names x y z b v r says is to named judged begins at step status =
       prints_begun (converting_promise converting) true names whole x y z b v r to
       (λ answer. to ∙ (name r status answer))
-      (known x.told (λ c. NamesLog c.files (checked_by converting) (task_to_check d q key) bytes) (λ c. Keeps (converting_promise converting) c.files whole)
+      (known x.told (λ c. NamesLogOf c.files (checked_by converting) (task_to_check d q key) bytes) (λ c. Keeps (converting_promise converting) c.files whole)
       (λ c log. gives_whole c.files verdict whole log judged (converted verdict is judged.judged) refl) named)
       refl begins at step (ended_as verdict r status) (ends_as converting verdict r status)
     where

@@ -27,7 +27,7 @@ use Rattle.cc_words.specs.Requests.{Generally, ToListGenerally}
 use Rattle.cc_words.specs.Words.{Text}
 use Rattle.cc_tell.proofs.GivenSteps.{step_as}
 use Rattle.cc_list.proofs.Outcomes.{known, prints_begun}
-use Rattle.cc_run.proofs.Readings.{generally_by}
+use Rattle.cc_words.specs.Views.{generally_by}
 use Rattle.cc_run.proofs.SurelyTold.{log_begins}
 
 -- ---- what is asked

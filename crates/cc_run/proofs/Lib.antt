@@ -6,19 +6,18 @@ pub mod Exported
 pub mod GeneralFinds
 pub mod GeneralTexts
 mod GeneralWritten
-pub mod GenerallyChecked
 pub mod GenerallyTold
 pub mod Judged
+pub mod Judging
 pub mod Made
 pub mod ModelFinds
 pub mod ModelLines
 pub mod ModelRuns
 pub mod ModelTexts
 pub mod Promised
-pub mod Readings
+pub mod Reading
 pub mod SureFinds
 pub mod SureTexts
-pub mod SurelyChecked
 pub mod SurelyTold
 pub mod WideClaims
 pub mod WideGrounded

@@ -23,7 +23,9 @@ use Rattle.cc_print.specs.Models.{models_verdict_line}
 use Rattle.cc_lists.specs.Subjects.{AreGoodAxioms}
 use Rattle.cc_run.specs.CnfForms.{IsFormOf}
 use Rattle.cc_run.specs.Modes.Checking.{verdict_status}
-use Rattle.cc_run.specs.Modes.CheckingModels.{ChecksModels, models_checking_promise}
+use Rattle.cc_run.proofs.Judging.{prints_judged}
+use Rattle.cc_run.specs.Judging.{MayEndJudging, TellsVerdict}
+use Rattle.cc_run.specs.Modes.CheckingModels.{NamesCnf, models_checking_promise, models_judging}
 use Rattle.cc_run.specs.Modes.Modelling.{EndsModels, IsCnfIn, Models, RefusesCnf, modelling_promise}
 use Rattle.cc_run.specs.ModelsTold.{AreWithin, EndsListing, TellsListing, told_of}
 use Rattle.cc_list.specs.Promises.{IsEndStatus, Keeps, log_asked}
@@ -40,7 +42,7 @@ use Rattle.cc_words.specs.declared.asked.Asked.TheVariants as requests
 use Rattle.cc_words.specs.declared.asked.CheckModelsAsked.{CheckModelsAsked}
 use Rattle.cc_words.specs.declared.asked.ModelsAsked.{ModelsAsked}
 use Rattle.cc_words.specs.Requests.{ModelChecking, Modelling, ToCheckModels, ToModel}
-use Rattle.cc_words.specs.Views.{plain_request, plain_text}
+use Rattle.cc_words.specs.Views.{modelling_by, models_checking_by, plain_request, plain_text}
 use Rattle.cc_words.specs.Words.{Text}
 use Rattle.cc_tell.proofs.Calls.{called_on}
 use Rattle.cc_tell.proofs.GivenSteps.{calm_both, rose_later, step_as}
@@ -56,17 +58,11 @@ same_modelling a b e = cc
 same_checking : (a b : ModelChecking) → ToCheckModels a ≡ ToCheckModels b → a ≡ b
 same_checking a b e = cc
 
-abbrev pub modelling_by : ModelsAsked → Modelling
-modelling_by asked = record { file = asked.file.now; count = asked.count; budget = asked.budget; log = plain_text asked.log; form = asked.form }
-
-abbrev pub models_checked_by : CheckModelsAsked → ModelChecking
-models_checked_by asked = record { file = asked.file.now; log = asked.log.now }
-
 pub modelling_is : (asked : ModelsAsked) (modelling : Modelling) → plain_request (requests.Models asked) ≡ ToModel modelling → modelling_by asked ≡ modelling
 modelling_is asked modelling e = same_modelling (modelling_by asked) modelling e
 
-pub checked_is : (asked : CheckModelsAsked) (checking : ModelChecking) → plain_request (requests.CheckModels asked) ≡ ToCheckModels checking → models_checked_by asked ≡ checking
-checked_is asked checking e = same_checking (models_checked_by asked) checking e
+pub checked_is : (asked : CheckModelsAsked) (checking : ModelChecking) → plain_request (requests.CheckModels asked) ≡ ToCheckModels checking → models_checking_by asked ≡ checking
+checked_is asked checking e = same_checking (models_checking_by asked) checking e
 
 pub always : (o : Option Contents) {P : Type 0} → P → IfSome o (λ _. P)
 always None p = tt
@@ -74,11 +70,6 @@ always (Some c) p = p
 
 pub cnf_as : (o : Option Contents) (a b : Text) (cnf : PlainCnf) → a ≡ b → IfSome o (λ c. IsCnfIn c.files a cnf) → IfSome o (λ c. IsCnfIn c.files b cnf)
 cnf_as o a b cnf same is = subst (λ (f : Text). IfSome o (λ c. IsCnfIn c.files f cnf)) same is
-
-pub log_there : (o : Option Contents) (a b : Text) (read bytes : List ℕ) → a ≡ b → bytes ≡ read → IfSome o (λ c. c.files a ≡ Some read) → IfSome o (λ c. c.files b ≡ Some bytes)
-log_there None a b read bytes same same_bytes there = tt
-log_there (Some c) a b read bytes same same_bytes there =
-    subst (λ (n : Text). c.files n ≡ Some bytes) same (subst (λ (l : List ℕ). c.files a ≡ Some l) (sym same_bytes) there)
 
 -- ---- what is refused
 
@@ -94,78 +85,29 @@ checks_refuse o checking refusal file named name same said refused =
     known o (λ c. RefusesCnf c.files file refusal named) (λ c. (models_checking_promise checking).Refuses c.files refusal name)
     (λ c is. (inl (subst (λ (f : Text). RefusesCnf c.files f refusal name) same (subst (λ (n : Text). RefusesCnf c.files file refusal n) (sym said) is)))) refused
 
-pub checks_refuse_long : (o : Option Contents) (checking : ModelChecking) (cnf : PlainCnf) (name : Text) (most : ℕ) (refusal : Refusal) →
-    name ≡ checking.log → IfSome o (λ c. IsCnfIn c.files checking.file cnf) →
-    IfSome o (λ c. (bytes : List ℕ) × (c.files name ≡ Some bytes) × (most < length bytes)) → most ≡ limit_number limits.LogBytes → refusal ≡ past limits.LogBytes →
-    IfSome o (λ c. (models_checking_promise checking).Refuses c.files refusal [])
-checks_refuse_long None checking cnf name most refusal same is long most_is past_is = tt
-checks_refuse_long (Some c) checking cnf name most refusal same is long most_is past_is =
-    (inr (record {
-      cnf = cnf;
-      is = is;
-      bytes = long.0;
-      there = subst (λ (n : Text). c.files n ≡ Some long.0) same long.1;
-      many = subst (λ (n : ℕ). n < length long.0) most_is long.2;
-      refused = past_is;
-      name_is = refl;
-    }))
-
 -- ---- a verdict
 
-verdict_may : (checking : ModelChecking) (verdict : LogVerdict) → (models_checking_promise checking).MayEnd (verdict_status verdict)
-verdict_may checking (verdicts.Accepted first last blocked) = tt
-verdict_may checking (verdicts.Refused line reason) = tt
+pub verdict_may : (verdict : LogVerdict) → MayEndJudging (verdict_status verdict)
+verdict_may (verdicts.Accepted first last blocked) = tt
+verdict_may (verdicts.Refused line reason) = tt
 
-blocked_models : (cnf : PlainCnf) (form : Axioms) (bytes : List ℕ) (verdict : LogVerdict) → IsFormOf cnf form → BlocksAll (IsRowOf form.sizes form.clauses) bytes verdict →
+pub blocked_models : (cnf : PlainCnf) (form : Axioms) (bytes : List ℕ) (verdict : LogVerdict) → IsFormOf cnf form → BlocksAll (IsRowOf form.sizes form.clauses) bytes verdict →
     BlocksAll (IsModelOf cnf) bytes verdict
 blocked_models cnf form bytes (verdicts.Accepted first last blocked) is all = λ row model. all row ((is.tells.rows row).1 model)
 blocked_models cnf form bytes (verdicts.Refused line reason) is all = tt
 
-pub prints_models_verdict : (checking : ModelChecking) (cnf : PlainCnf) (form : Axioms) (bytes : List ℕ) (verdict : LogVerdict) (x z : Moment) (r : Result Status Stop) →
-    IsFormOf cnf form → IfSome x.told (λ c. IsCnfIn c.files checking.file cnf) →
-    IfSome x.told (λ c. c.files checking.log ≡ Some bytes) → length bytes ≤ limit_number limits.LogBytes → IsVerdict (subject_over form) bytes verdict →
-    BlocksAll (IsRowOf form.sizes form.clauses) bytes verdict → Step (only_out (models_verdict_line verdict)) x z r → IfOk r (λ status. status ≡ verdict_status verdict) →
-    Prints (models_checking_promise checking) false [] x z r
-prints_models_verdict checking cnf form bytes verdict x z r of is there few judged blocks step status =
-    prints_whole (models_checking_promise checking) false [] whole x z r (gives x.told is there) refl step (ended r status) (may r status) (record {
-      opened = [];
-      begun = [];
-      called = step.moves.called;
-      opened_first = first_none [];
-      begun_first = first_none (log_asked (models_checking_promise checking) statuses.Right);
-      whole = λ _. (refl, refl);
-    })
-  where
-    whole : Whole
-    whole = record { given = only_out (models_verdict_line verdict); begun = false; ends = Some (verdict_status verdict) }
+-- the files that are opened
+pub opens_checked : (o : Option Contents) (checking : ModelChecking) (file log : Text) → file ≡ checking.file → log ≡ checking.log →
+    IfSome o (λ c. (models_checking_promise checking).Opens c.files (file ∷ log ∷ []))
+opens_checked o checking file log same named = always o (checking.file ∷ [], refl, cc)
 
-    checks : (files : Files) → IsCnfIn files checking.file cnf → files checking.log ≡ Some bytes → ChecksModels checking files whole
-    checks files is there = record {
-      cnf = cnf;
-      is = is;
-      bytes = bytes;
-      there = there;
-      few = few;
-      verdict = verdict;
-      judged = subst (λ (a : Axioms). IsVerdict (subject_over a) bytes verdict) of.form_is judged;
-      blocks = blocked_models cnf form bytes verdict of blocks;
-      given = refl;
-      begun = refl;
-      ends = refl;
-    }
-
-    gives : (o : Option Contents) → IfSome o (λ c. IsCnfIn c.files checking.file cnf) → IfSome o (λ c. c.files checking.log ≡ Some bytes) →
-        IfSome o (λ c. Keeps (models_checking_promise checking) c.files whole)
-    gives None is there = tt
-    gives (Some c) is there = (inr (checks c.files is there))
-
-    ended : (r : Result Status Stop) → IfOk r (λ status. status ≡ verdict_status verdict) → IfOk r (λ status. Some (verdict_status verdict) ≡ Some status)
-    ended (Ok status) is = ap Some (sym is)
-    ended (Err stop) is = tt
-
-    may : (r : Result Status Stop) → IfOk r (λ status. status ≡ verdict_status verdict) → IfOk r ((models_checking_promise checking).MayEnd)
-    may (Ok status) is = subst (λ (s : Status). (models_checking_promise checking).MayEnd s) (sym is) (verdict_may checking verdict)
-    may (Err stop) is = tt
+-- the log is judged that is named
+pub judged_as : (checking : ModelChecking) (log : Text) (cnf : PlainCnf) → log ≡ checking.log → (x z : Moment) (r : Result Status Stop) → IfSome x.told (λ c. IsCnfIn c.files checking.file cnf) →
+    TellsVerdict (models_judging.Is cnf) (models_judging.Passes cnf) models_judging.line models_judging.status log x z r → Prints (models_checking_promise checking) false (log ∷ []) x z r
+judged_as checking log cnf same x z r is tells =
+    subst (λ (l : Text). Prints (models_checking_promise checking) false (l ∷ []) x z r) (sym same)
+    (prints_judged models_judging (λ files. RefusesCnf files checking.file) (NamesCnf checking) (λ files opened. opened ≡ checking.file ∷ []) checking.log verdict_may cnf x z r is
+    (subst (λ (l : Text). TellsVerdict (models_judging.Is cnf) (models_judging.Passes cnf) models_judging.line models_judging.status l x z r) same tells))
 
 -- ---- a listing
 

@@ -2,8 +2,7 @@
 use Rattle.std.proofs.Common.{refl, sym, subst, List, [], Option, Some, None, IfSome}
 use Rattle.cc_describe.specs.Places.{Files, HasPlaces}
 use Rattle.cc_ports.specs.Contents.{Contents}
-use Rattle.cc_run.specs.Modes.Checking.{MayEndChecking}
-use Rattle.cc_run.specs.Modes.CheckingSure.{MayEndCheckingSure}
+use Rattle.cc_run.specs.Judging.{MayEndJudging}
 use Rattle.cc_run.specs.Modes.Explaining.{MayEndExplaining}
 use Rattle.cc_run.specs.Modes.Exporting.{MayEndExporting}
 use Rattle.cc_run.specs.Modes.Making.{MayEndMaking}
@@ -69,15 +68,15 @@ pub some_asked_of : HasPlaces → (request : Option Request) (o : Option Content
 some_asked_of has request None = ([], tt)
 some_asked_of has request (Some c) = some_asked has c.files request
 
-may_end_checking : (status : Status) → MayEndChecking status → IsEndStatus status
-may_end_checking statuses.Right is = is
-may_end_checking statuses.Not is = is
-may_end_checking statuses.Refused is = is
-may_end_checking statuses.Spent is = absurd is
-may_end_checking statuses.Asked is = absurd is
-may_end_checking statuses.ReadFault is = is
-may_end_checking statuses.WriteFault is = is
-may_end_checking statuses.OutOfMemory is = is
+may_end_judging : (status : Status) → MayEndJudging status → IsEndStatus status
+may_end_judging statuses.Right is = is
+may_end_judging statuses.Not is = is
+may_end_judging statuses.Refused is = is
+may_end_judging statuses.Spent is = absurd is
+may_end_judging statuses.Asked is = absurd is
+may_end_judging statuses.ReadFault is = is
+may_end_judging statuses.WriteFault is = is
+may_end_judging statuses.OutOfMemory is = is
 
 may_end_making : (status : Status) → MayEndMaking status → IsEndStatus status
 may_end_making statuses.Right is = is
@@ -119,28 +118,18 @@ may_end_surely statuses.ReadFault is = is
 may_end_surely statuses.WriteFault is = is
 may_end_surely statuses.OutOfMemory is = is
 
-may_end_checking_sure : (status : Status) → MayEndCheckingSure status → IsEndStatus status
-may_end_checking_sure statuses.Right is = is
-may_end_checking_sure statuses.Not is = is
-may_end_checking_sure statuses.Refused is = is
-may_end_checking_sure statuses.Spent is = absurd is
-may_end_checking_sure statuses.Asked is = absurd is
-may_end_checking_sure statuses.ReadFault is = is
-may_end_checking_sure statuses.WriteFault is = is
-may_end_checking_sure statuses.OutOfMemory is = is
-
 -- each comes to its end with a status that is no fault
 pub ends_as_it_may : (request : Option Request) (status : Status) → (promise_asked request).MayEnd status → IsEndStatus status
 ends_as_it_may None status is = subst IsEndStatus (sym is) tt
 ends_as_it_may (Some (ToList listing)) status is = is
-ends_as_it_may (Some (ToCheck checking)) status is = may_end_checking status is
+ends_as_it_may (Some (ToCheck checking)) status is = may_end_judging status is
 ends_as_it_may (Some (ToMake size budget)) status is = may_end_making status is
 ends_as_it_may (Some (ToExplain explaining)) status is = may_end_explaining status is
-ends_as_it_may (Some (ToConvert converting)) status is = may_end_checking status is
+ends_as_it_may (Some (ToConvert converting)) status is = may_end_judging status is
 ends_as_it_may (Some (ToExport exporting)) status is = may_end_exporting status is
 ends_as_it_may (Some (ToModel modelling)) status is = is
-ends_as_it_may (Some (ToCheckModels checking)) status is = may_end_checking status is
+ends_as_it_may (Some (ToCheckModels checking)) status is = may_end_judging status is
 ends_as_it_may (Some (ToBeSure surely)) status is = may_end_surely status is
-ends_as_it_may (Some (ToCheckSure checking)) status is = may_end_checking_sure status is
+ends_as_it_may (Some (ToCheckSure checking)) status is = may_end_judging status is
 ends_as_it_may (Some (ToListGenerally generally)) status is = is
-ends_as_it_may (Some (ToCheckGeneral checking)) status is = may_end_checking_sure status is
+ends_as_it_may (Some (ToCheckGeneral checking)) status is = may_end_judging status is

@@ -26,12 +26,11 @@ use Rattle.cc_tell.specs.Steps.{Begins}
 use Rattle.cc_tell.specs.Givens.{nothing}
 use Rattle.cc_words.specs.declared.asked.SureAsked.{SureAsked}
 use Rattle.cc_words.specs.Requests.{Surely, ToBeSure}
-use Rattle.cc_words.specs.Views.{plain_text}
+use Rattle.cc_words.specs.Views.{plain_text, surely_by}
 use Rattle.cc_words.specs.Words.{Text}
 use Rattle.cc_tell.proofs.GivenSteps.{step_as}
 use Rattle.cc_list.proofs.Outcomes.{known, prints_begun}
 use Rattle.cc_list.proofs.Passing.{range_is}
-use Rattle.cc_run.proofs.Readings.{surely_by}
 
 -- ---- what is asked
 

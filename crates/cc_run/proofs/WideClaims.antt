@@ -140,9 +140,14 @@ module _ (o : Option Contents) (by : Named) (said : DescribedWide) (of : IsReadB
     name = name ∙ ap (λ names. file_named names refusal) of.said.described.names;
   }))
 
-  pub refuses_generally : (refusal : Refusal) (file : Text) → file ≡ file_named said.described.files refusal →
+  refuses_generally : (refusal : Refusal) (file : Text) → file ≡ file_named said.described.files refusal →
       IsWideFault (wide_in of.places) (map plain_query said.described.queries) by.query (faults.Refused refusal) →
       IfSome o (λ before. RefusesGenerally before.files by refusal file)
   refuses_generally refusal file name fault =
       known o (λ before. AreReadFor heads.Any before.files by.file of.places) (λ before. RefusesGenerally before.files by refusal file)
       (λ before read. refuses_of before.files refusal file read name fault) of.read
+
+  pub wide_claim_refuses : (fault : Fault) → IsWideFault (wide_in of.places) (map plain_query said.described.queries) by.query fault → (refusal : Refusal) → fault ≡ faults.Refused refusal →
+      IfSome o (λ before. RefusesGenerally before.files by refusal (file_named said.described.files refusal))
+  wide_claim_refuses fault is refusal same =
+      refuses_generally refusal (file_named said.described.files refusal) refl (subst (IsWideFault (wide_in of.places) (map plain_query said.described.queries) by.query) same is)

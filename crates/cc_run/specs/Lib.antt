@@ -3,9 +3,10 @@ pub mod Converted
 pub mod Explained
 pub mod Exported
 pub mod Generals
+pub mod Judging
 pub mod ModelsTold
 pub mod Modes
 pub mod Naming
 pub mod Promised
-pub mod Requested
+pub mod Reading
 pub mod Sures

@@ -2,6 +2,8 @@
 #![tactic(auto)]
 
 mod cnfs;
+mod judging;
+mod mode;
 mod modes;
 mod rows;
 mod top;

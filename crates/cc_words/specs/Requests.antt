@@ -1,5 +1,5 @@
 -- What the program is asked for.
-use Rattle.std.specs.Prelude.{ℕ, Bool, true, ◌==◌, ◌&&◌, not, nat_le, if◌then◌else◌, List, [], ◌∷◌, length, codes, Option, Some, None, option_map, is_some, unwrap_or}
+use Rattle.std.specs.Prelude.{ℕ, Bool, true, ◌==◌, ◌&&◌, not, nat_le, if◌then◌else◌, List, [], ◌∷◌, length, codes, Option, Some, None, option_map, is_some, unwrap_or, ◌≤◌, IfSome}
 use Rattle.std.specs.List.{list_all, list_any}
 use Rattle.std.specs.Option.{option_map_or}
 use Rattle.cc_defs.specs.declared.log.Version.{Version}
@@ -102,6 +102,21 @@ pub data Request : Type 0 where
   ToCheckSure : SureChecking → Request
   ToListGenerally : Generally → Request
   ToCheckGeneral : GeneralChecking → Request
+
+-- its numbers are within their bounds
+abbrev pub IsWithin : Request → Type 0
+IsWithin (ToList listing) = IfSome listing.count (λ count. 1 ≤ count) × (listing.budget ≤ 2000000)
+IsWithin (ToCheck checking) = Unit {0}
+IsWithin (ToMake size budget) = (1 ≤ size) × (budget ≤ 2000000)
+IsWithin (ToExplain explaining) = Unit {0}
+IsWithin (ToConvert converting) = Unit {0}
+IsWithin (ToExport exporting) = Unit {0}
+IsWithin (ToModel modelling) = IfSome modelling.count (λ count. 1 ≤ count) × (modelling.budget ≤ 2000000)
+IsWithin (ToCheckModels checking) = Unit {0}
+IsWithin (ToBeSure surely) = surely.budget ≤ 2000000
+IsWithin (ToCheckSure checking) = Unit {0}
+IsWithin (ToListGenerally generally) = IfSome generally.count (λ count. 1 ≤ count) × (generally.budget ≤ 2000000)
+IsWithin (ToCheckGeneral checking) = Unit {0}
 
 -- ---- values
 

@@ -3,8 +3,19 @@ use Rattle.std.specs.Prelude.{Option, option_map}
 use Rattle.std.specs.Borrow.{Bor}
 use Rattle.cc_words.specs.declared.asked.Asked.{Asked}
 use Rattle.cc_words.specs.declared.asked.Asked.TheVariants as asked
+use Rattle.cc_words.specs.declared.asked.CheckAsked.{CheckAsked}
+use Rattle.cc_words.specs.declared.asked.CheckGeneralAsked.{CheckGeneralAsked}
+use Rattle.cc_words.specs.declared.asked.CheckModelsAsked.{CheckModelsAsked}
+use Rattle.cc_words.specs.declared.asked.CheckSureAsked.{CheckSureAsked}
+use Rattle.cc_words.specs.declared.asked.ConvertAsked.{ConvertAsked}
+use Rattle.cc_words.specs.declared.asked.ExplainAsked.{ExplainAsked}
+use Rattle.cc_words.specs.declared.asked.ExportAsked.{ExportAsked}
+use Rattle.cc_words.specs.declared.asked.GeneralAsked.{GeneralAsked}
+use Rattle.cc_words.specs.declared.asked.ListAsked.{ListAsked}
+use Rattle.cc_words.specs.declared.asked.ModelsAsked.{ModelsAsked}
+use Rattle.cc_words.specs.declared.asked.SureAsked.{SureAsked}
 use Rattle.cc_words.specs.declared.given.Given.{Given as GivenWords}
-use Rattle.cc_words.specs.Requests.{Request, ToList, ToCheck, ToMake, ToExplain, ToConvert, ToExport, ToModel, ToCheckModels, ToBeSure, ToCheckSure, ToListGenerally, ToCheckGeneral}
+use Rattle.cc_words.specs.Requests.{Checking, Converting, Explaining, Exporting, GeneralChecking, Generally, Listing, ModelChecking, Modelling, Request, SureChecking, Surely, ToList, ToCheck, ToMake, ToExplain, ToConvert, ToExport, ToModel, ToCheckModels, ToBeSure, ToCheckSure, ToListGenerally, ToCheckGeneral}
 use Rattle.cc_words.specs.Words.{Given, Text}
 
 abbrev pub plain_text : Option (Bor Text) → Option Text
@@ -26,8 +37,10 @@ plain_given given = record {
   file = plain_text given.file;
 }
 
-abbrev pub plain_request : Asked → Request
-plain_request (asked.List list) = ToList (record {
+-- ---- what each mode is asked for
+
+abbrev pub listing_by : ListAsked → Listing
+listing_by list = record {
   file = list.file.now;
   query = plain_text list.query;
   count = list.count;
@@ -35,47 +48,79 @@ plain_request (asked.List list) = ToList (record {
   after = plain_text list.after;
   log = plain_text list.log;
   form = list.form;
-})
-plain_request (asked.Check check) = ToCheck (record {
+}
+
+abbrev pub checking_by : CheckAsked → Checking
+checking_by check = record {
   file = check.file.now;
   query = plain_text check.query;
   after = plain_text check.after;
   log = check.log.now;
-})
-plain_request (asked.Make size budget) = ToMake size budget
-plain_request (asked.Explain explain) = ToExplain (record { file = explain.file.now; key = explain.key.now })
-plain_request (asked.Convert convert) = ToConvert (record {
+}
+
+abbrev pub explaining_by : ExplainAsked → Explaining
+explaining_by explain = record { file = explain.file.now; key = explain.key.now }
+
+abbrev pub converting_by : ConvertAsked → Converting
+converting_by convert = record {
   file = convert.file.now;
   query = plain_text convert.query;
   after = plain_text convert.after;
   log = convert.log.now;
   to = convert.to.now;
-})
-plain_request (asked.Export export) = ToExport (record { file = export.file.now; query = plain_text export.query; horizon = export.horizon })
-plain_request (asked.Models models) = ToModel (record {
+}
+
+abbrev pub exporting_by : ExportAsked → Exporting
+exporting_by export = record { file = export.file.now; query = plain_text export.query; horizon = export.horizon }
+
+abbrev pub modelling_by : ModelsAsked → Modelling
+modelling_by models = record {
   file = models.file.now;
   count = models.count;
   budget = models.budget;
   log = plain_text models.log;
   form = models.form;
-})
-plain_request (asked.CheckModels check) = ToCheckModels (record { file = check.file.now; log = check.log.now })
-plain_request (asked.Sure sure) = ToBeSure (record {
+}
+
+abbrev pub models_checking_by : CheckModelsAsked → ModelChecking
+models_checking_by check = record { file = check.file.now; log = check.log.now }
+
+abbrev pub surely_by : SureAsked → Surely
+surely_by sure = record {
   file = sure.file.now;
   query = plain_text sure.query;
   budget = sure.budget;
   log = plain_text sure.log;
-})
-plain_request (asked.CheckSure check) = ToCheckSure (record { file = check.file.now; query = plain_text check.query; log = check.log.now })
-plain_request (asked.General general) = ToListGenerally (record {
+}
+
+abbrev pub sure_checking_by : CheckSureAsked → SureChecking
+sure_checking_by check = record { file = check.file.now; query = plain_text check.query; log = check.log.now }
+
+abbrev pub generally_by : GeneralAsked → Generally
+generally_by general = record {
   file = general.file.now;
   query = plain_text general.query;
   count = general.count;
   budget = general.budget;
   log = plain_text general.log;
-})
-plain_request (asked.CheckGeneral check) =
-    ToCheckGeneral (record { file = check.file.now; query = plain_text check.query; log = check.log.now })
+}
+
+abbrev pub general_checking_by : CheckGeneralAsked → GeneralChecking
+general_checking_by check = record { file = check.file.now; query = plain_text check.query; log = check.log.now }
+
+abbrev pub plain_request : Asked → Request
+plain_request (asked.List list) = ToList (listing_by list)
+plain_request (asked.Check check) = ToCheck (checking_by check)
+plain_request (asked.Make size budget) = ToMake size budget
+plain_request (asked.Explain explain) = ToExplain (explaining_by explain)
+plain_request (asked.Convert convert) = ToConvert (converting_by convert)
+plain_request (asked.Export export) = ToExport (exporting_by export)
+plain_request (asked.Models models) = ToModel (modelling_by models)
+plain_request (asked.CheckModels check) = ToCheckModels (models_checking_by check)
+plain_request (asked.Sure sure) = ToBeSure (surely_by sure)
+plain_request (asked.CheckSure check) = ToCheckSure (sure_checking_by check)
+plain_request (asked.General general) = ToListGenerally (generally_by general)
+plain_request (asked.CheckGeneral check) = ToCheckGeneral (general_checking_by check)
 
 abbrev pub plain_asked : Option Asked → Option Request
 plain_asked = option_map plain_request

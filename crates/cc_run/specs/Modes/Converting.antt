@@ -13,7 +13,8 @@ use Rattle.cc_describe.specs.Places.{Files}
 use Rattle.cc_judge.specs.Judging.{BlocksHistories, IsVerdictWithin}
 use Rattle.cc_print.specs.Verdicts.{verdict_line}
 use Rattle.cc_lists.specs.Subjects.{subject_of}
-use Rattle.cc_run.specs.Modes.Checking.{MayEndChecking, NamesLog, RefusesChecking, verdict_status}
+use Rattle.cc_run.specs.Judging.{MayEndJudging}
+use Rattle.cc_run.specs.Modes.Checking.{NamesLogOf, checking_promise, verdict_status}
 use Rattle.cc_list.specs.Promises.{Promise}
 use Rattle.cc_list.specs.Tasks.{Task}
 use Rattle.cc_run.specs.Naming.{checked_by}
@@ -46,7 +47,7 @@ IsConverted subject bytes (verdicts.Refused line reason) whole =
 pub record Converts (converting : Converting) (files : Files) (whole : Whole) : Type 0 where
   pub task : Task
   pub bytes : List ℕ
-  pub named : NamesLog files (checked_by converting) task bytes
+  pub named : NamesLogOf files (checked_by converting) task bytes
   pub few : length bytes ≤ limit_number limits.LogBytes
   pub verdict : LogVerdict
   pub judged : IsVerdict (task_subject task) bytes verdict
@@ -62,9 +63,9 @@ begun_as converting status = Some converting.to
 
 abbrev pub converting_promise : Converting → Promise
 converting_promise converting = record {
-  Refuses = λ files. RefusesChecking files (checked_by converting);
+  Refuses = (checking_promise (checked_by converting)).Refuses;
   Gives = Converts converting;
   Opens = λ files opened. (named : List Text) × AreToOpen heads.Definite files converting.file named × (opened ≡ named ++ converting.log ∷ []);
   begins = begun_as converting;
-  MayEnd = MayEndChecking;
+  MayEnd = MayEndJudging;
 }

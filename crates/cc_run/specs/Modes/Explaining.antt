@@ -53,7 +53,7 @@ pub record RefusesRow (files : Files) (explaining : Explaining) (refusal : Refus
 
 abbrev pub RefusesExplaining : Files → Explaining → Refusal → Text → Type 0
 RefusesExplaining files explaining refusal file =
-    RefusesDescription files (named_to explaining) refusal file ⊎ RefusesRow files explaining refusal file
+    RefusesDescriptionFor heads.Definite files explaining.file refusal file ⊎ RefusesRow files explaining refusal file
 
 -- ---- what is given
 

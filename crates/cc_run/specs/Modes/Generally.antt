@@ -59,7 +59,7 @@ pub record RefusesWideClaim (files : Files) (named : Named) (refusal : Refusal) 
 
 abbrev pub RefusesGenerally : Files → Named → Refusal → Text → Type 0
 RefusesGenerally files named refusal file =
-    RefusesDescriptionFor heads.Any files named refusal file
+    RefusesDescriptionFor heads.Any files named.file refusal file
     ⊎ (RefusesWideQuery files named refusal file ⊎ RefusesWideClaim files named refusal file)
 
 -- the description and the query that are named, of which nothing is refused

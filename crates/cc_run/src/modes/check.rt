@@ -1,35 +1,31 @@
 //! Check mode: a log that words name is judged.
-ghost use Rattle.std.specs.Prelude.{◌≡◌, ◌≤◌, [], ◌∷◌, false, IfOk, IfSome, length};
-ghost use Rattle.cc_defs.specs.Description.{Description};
-ghost use Rattle.cc_defs.specs.Limits.{limit_number};
-ghost use Rattle.cc_defs.specs.declared.refusal.LimitAt.TheVariants as limits;
-ghost use Rattle.cc_defs.specs.Resolved.{Query};
+ghost use Rattle.std.specs.Prelude.{◌≡◌, [], ◌∷◌, IfOk};
 ghost use Rattle.cc_print.specs.Verdicts.{verdict_line};
 ghost use Rattle.cc_run.specs.Modes.Checking as checks;
-ghost use Rattle.cc_run.specs.Modes.Checking.{checking_promise, NamesLog};
+ghost use Rattle.cc_run.specs.Modes.Checking.{checking_promise, query_judging};
 ghost use Rattle.cc_list.specs.Preparing.{IsSearchable, StandsFor};
-ghost use Rattle.cc_list.specs.Stops.{Prints};
-ghost use Rattle.cc_list.specs.Tasks.{IsTask};
-ghost use Rattle.cc_run.specs.Naming.{named_in};
-ghost use Rattle.cc_list.specs.Telling.{task_to_check};
+ghost use Rattle.cc_list.specs.Tasks.{Task};
 ghost use Rattle.cc_tell.specs.Steps.{Step};
 ghost use Rattle.cc_tell.specs.Givens.{only_out};
-ghost use Rattle.cc_words.specs.Requests.{Checking, ToCheck};
-ghost use Rattle.cc_words.specs.Views.{plain_request};
-ghost use Rattle.cc_words.specs.declared.asked.Asked.TheVariants as requests;
+ghost use Rattle.cc_describe.specs.declared.heads.Heads.TheVariants as heads;
+ghost use Rattle.cc_words.specs.Views.{checking_by};
 
-use cc_defs::{Fault, LimitAt, LogVerdict, Refusal};
-use cc_describe::Described;
+use crate::judging::{Judge, judge_log};
+use crate::mode::{Mode, refuse_fault};
+use bumpalo::Bump;
+use cc_arena::Terms;
+use cc_defs::{Fault, LogVerdict};
+use cc_describe::{Described, DescribedWide, Heads};
 use cc_judge::judge;
-use cc_list::Prepared;
-use cc_ports::{Desk, ReadStop, To, read_all};
+use cc_list::{Prepared, prepare};
+use cc_ports::{Desk, To};
 use cc_print::verdict_text;
-use cc_tell::{Status, Stop, give, refuse};
+use cc_tell::{Status, Stop, give};
 use cc_words::CheckAsked;
 use std::alloc::Global;
 
 /// The status of a run with this verdict.
-fn verdict_status(verdict: &LogVerdict) -> Status
+pub(crate) fn verdict_status(verdict: &LogVerdict) -> Status
     ensures { result ≡ checks.verdict_status verdict.now }
 {
     match verdict {
@@ -53,56 +49,73 @@ pub(crate) fn tell_verdict<D: Desk>(
     Ok(verdict_status(verdict))
 }
 
-/// Judges the bytes of a log.
-fn check_log<D: Desk>(
-    alloc: Global,
-    desk: &mut D,
-    described: &Described,
-    prepared: &Prepared<'_>,
-    bytes: &[u8],
-) -> Result<Status, Stop>
-    requires searchable { IsSearchable described.now prepared.now prepared.now.key }
-    requires few { length bytes.now ≤ limit_number limits.LogBytes }
-    ensures { (checking : Checking) (d : Description) (q : Query) →
-        StandsFor described.now prepared.now d q →
-        IfSome (D.seen desk.old).told (λ before. NamesLog before.files checking
-        (task_to_check d q prepared.now.key) bytes.now) →
-        Prints (checking_promise checking) false [] (D.seen desk.old) (D.seen desk.new) result }
-{
-    match judge(
-        alloc,
-        &described.sig,
-        &prepared.laws,
-        &prepared.query,
-        prepared.key.as_ref(),
-        bytes,
-    ) {
-        Ok(verdict) => tell_verdict(alloc, desk, &verdict),
-        Err(Fault::Refused(refusal)) => refuse(alloc, desk, &refusal, ""),
-        Err(Fault::OutOfMemory) => Err(Stop::OutOfMemory),
+/// Logs of a query that is prepared.
+struct QueryLog<'a, 'b> {
+    described: &'b Described,
+    prepared: &'b Prepared<'a>,
+}
+
+impl<'a, 'b> Judge for QueryLog<'a, 'b> {
+    type Verdict = LogVerdict;
+
+    ghost Subject = { Task };
+    ghost about = { λ judge task. StandsFor judge.described.now judge.prepared.now task.description
+        task.query × (task.ask.after ≡ judge.prepared.now.key) };
+    ghost ready = { λ judge. IsSearchable judge.described.now judge.prepared.now
+        judge.prepared.now.key };
+    ghost Is = { query_judging.Is };
+    ghost Passes = { query_judging.Passes };
+    ghost line = { query_judging.line };
+    ghost ends = { query_judging.status };
+
+    fn judge(&self, alloc: Global, bytes: &[u8]) -> Result<LogVerdict, Fault> {
+        judge(
+            alloc,
+            &self.described.sig,
+            &self.prepared.laws,
+            &self.prepared.query,
+            self.prepared.key.as_ref(),
+            bytes,
+        )
+    }
+
+    fn tell<D: Desk>(alloc: Global, desk: &mut D, verdict: &LogVerdict) -> Result<Status, Stop> {
+        tell_verdict(alloc, desk, verdict)
     }
 }
 
-/// Reads the log and judges it.
-pub(crate) fn check<D: Desk>(
-    alloc: Global,
-    desk: &mut D,
-    described: &Described,
-    asked: &CheckAsked<'_>,
-    prepared: &Prepared<'_>,
-) -> Result<Status, Stop>
-    requires searchable { IsSearchable described.now prepared.now prepared.now.key }
-    ensures { (checking : Checking) (d : Description) (q : Query) →
-        plain_request (requests.Check asked.now) ≡ ToCheck checking →
-        StandsFor described.now prepared.now d q →
-        IfSome (D.seen desk.old).told (λ before. IsTask before.files (named_in checking)
-        (task_to_check d q prepared.now.key)) → Prints (checking_promise checking) false (asked.now.log.now ∷ [])
-        (D.seen desk.old) (D.seen desk.new) result }
-{
-    match read_all(alloc, desk, asked.log, LimitAt::LogBytes.number() as usize) {
-        Ok(bytes) => check_log(alloc, desk, described, prepared, bytes.items()),
-        Err(ReadStop::Limit) => refuse(alloc, desk, &Refusal::past(LimitAt::LogBytes), ""),
-        Err(ReadStop::Failed) => Err(Stop::ReadFault),
-        Err(ReadStop::OutOfMemory) => Err(Stop::OutOfMemory),
+impl<'a> Mode for CheckAsked<'a> {
+    ghost promise = { λ asked. checking_promise (checking_by asked) };
+
+    ghost which = { λ asked. heads.Definite };
+
+    ghost file = { λ asked. asked.file.now };
+
+    ghost behind = { λ asked. asked.log.now ∷ [] };
+
+    ghost within = { λ asked. Unit {0} };
+
+    fn heads(&self) -> Heads {
+        Heads::Definite
+    }
+
+    fn file(&self) -> &str {
+        self.file
+    }
+
+    // Judges a log of a query.
+    fn answer<D: Desk>(
+        &self,
+        alloc: Global,
+        desk: &mut D,
+        said: &DescribedWide,
+    ) -> Result<Status, Stop> {
+        let described = &said.described;
+        let arena = Bump::new(alloc);
+        let terms = Terms::new(&arena);
+        match prepare(alloc, described, self.query, self.after, &terms) {
+            Ok(prepared) => judge_log(alloc, desk, self.log, &QueryLog { described, prepared: &prepared }),
+            Err(fault) => refuse_fault(alloc, desk, described, &fault),
+        }
     }
 }

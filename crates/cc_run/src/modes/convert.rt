@@ -16,7 +16,7 @@ ghost use Rattle.cc_judge.specs.Judging.{IsVerdictWithin};
 ghost use Rattle.cc_ports.specs.declared.desk.To.TheVariants as outputs;
 ghost use Rattle.cc_run.specs.Converted.{AreLeft, HasLeft, HasOpened, IsJudged, converted_by, other_said};
 ghost use Rattle.cc_run.specs.Modes.Checking as checks;
-ghost use Rattle.cc_run.specs.Modes.Checking.{NamesLog};
+ghost use Rattle.cc_run.specs.Modes.Checking.{NamesLogOf};
 ghost use Rattle.cc_run.specs.Modes.Converting.{converting_promise};
 ghost use Rattle.cc_list.specs.Preparing.{IsSearchable, StandsFor};
 ghost use Rattle.cc_list.specs.Stops.{Prints};
@@ -27,19 +27,23 @@ ghost use Rattle.cc_tell.specs.Steps.{Step};
 ghost use Rattle.cc_tell.specs.Givens.{given_to};
 ghost use Rattle.cc_tell.specs.Tellers.{IsCounted};
 ghost use Rattle.cc_words.specs.Requests.{Converting, ToConvert};
-ghost use Rattle.cc_words.specs.Views.{plain_request};
 ghost use Rattle.cc_words.specs.declared.asked.Asked.TheVariants as requests;
+ghost use Rattle.cc_describe.specs.declared.heads.Heads.TheVariants as heads;
+ghost use Rattle.cc_words.specs.Views.{converting_by, plain_request};
 
+use crate::mode::{Mode, refuse_fault};
 use crate::modes::check::tell_verdict;
+use bumpalo::Bump;
+use cc_arena::Terms;
 use cc_convert::theorems::accepted_logs_say_lines;
 use cc_convert::{behind_header, said_line, version_of};
 use cc_defs::{Fault, LimitAt, LogLine, LogVerdict, OutOfMemory, Refusal, Version};
-use cc_describe::Described;
+use cc_describe::{Described, DescribedWide, Heads};
 use cc_judge::judge;
-use cc_list::Prepared;
-use cc_lists::form_at;
+use cc_list::{Prepared, prepare};
 use cc_log::theorems::other_versions_are_judged_alike;
 use cc_ports::{Desk, ReadStop, read_all};
+use cc_query::form_at;
 use cc_tell::{
     Status, Stop, Teller, begin_log, give_header, own_behind_line, refuse, tell_line_in,
 };
@@ -251,7 +255,7 @@ fn convert_judged<D: Desk>(
     ensures { (converting : Converting) (d : Description) (q : Query) →
         to.now ≡ converting.to →
         StandsFor described.now prepared.now d q →
-        IfSome (D.seen desk.old).told (λ before. NamesLog before.files (checked_by converting)
+        IfSome (D.seen desk.old).told (λ before. NamesLogOf before.files (checked_by converting)
         (task_to_check d q prepared.now.key) bytes.now) →
         IsJudged d q prepared.now.key bytes.now verdict.now →
         Prints (converting_promise converting) true [] (D.seen desk.old) (D.seen desk.new) result }
@@ -283,7 +287,7 @@ fn convert_log<D: Desk>(
     ensures { (converting : Converting) (d : Description) (q : Query) →
         to.now ≡ converting.to →
         StandsFor described.now prepared.now d q →
-        IfSome (D.seen desk.old).told (λ before. NamesLog before.files (checked_by converting)
+        IfSome (D.seen desk.old).told (λ before. NamesLogOf before.files (checked_by converting)
         (task_to_check d q prepared.now.key) bytes.now) →
         Prints (converting_promise converting) true [] (D.seen desk.old) (D.seen desk.new) result }
 {
@@ -303,7 +307,7 @@ fn convert_log<D: Desk>(
 
 /// Reads the log and judges it; where it is accepted, begins the file of its other version, tells the verdict, and gives the other
 /// version to Log, line by line.
-pub(crate) fn convert<D: Desk>(
+fn convert_over<D: Desk>(
     alloc: Global,
     desk: &mut D,
     described: &Described,
@@ -325,5 +329,41 @@ pub(crate) fn convert<D: Desk>(
         Err(ReadStop::Limit) => refuse(alloc, desk, &Refusal::past(LimitAt::LogBytes), ""),
         Err(ReadStop::Failed) => Err(Stop::ReadFault),
         Err(ReadStop::OutOfMemory) => Err(Stop::OutOfMemory),
+    }
+}
+
+impl<'a> Mode for ConvertAsked<'a> {
+    ghost promise = { λ asked. converting_promise (converting_by asked) };
+
+    ghost which = { λ asked. heads.Definite };
+
+    ghost file = { λ asked. asked.file.now };
+
+    ghost behind = { λ asked. asked.log.now ∷ [] };
+
+    ghost within = { λ asked. Unit {0} };
+
+    fn heads(&self) -> Heads {
+        Heads::Definite
+    }
+
+    fn file(&self) -> &str {
+        self.file
+    }
+
+    // Judges a log of a query, and writes it in its other version.
+    fn answer<D: Desk>(
+        &self,
+        alloc: Global,
+        desk: &mut D,
+        said: &DescribedWide,
+    ) -> Result<Status, Stop> {
+        let described = &said.described;
+        let arena = Bump::new(alloc);
+        let terms = Terms::new(&arena);
+        match prepare(alloc, described, self.query, self.after, &terms) {
+            Ok(prepared) => convert_over(alloc, desk, described, self, &prepared),
+            Err(fault) => refuse_fault(alloc, desk, described, &fault),
+        }
     }
 }

@@ -21,20 +21,21 @@ ghost use Rattle.cc_sorts.specs.Tables.{IsSignatureFor};
 ghost use Rattle.cc_tell.specs.Steps.{Step};
 ghost use Rattle.cc_tell.specs.Givens.{given_to, only_out};
 ghost use Rattle.cc_words.specs.Requests.{Exporting, ToExport};
-ghost use Rattle.cc_words.specs.Views.{plain_request, plain_text};
 ghost use Rattle.cc_words.specs.declared.asked.Asked.TheVariants as requests;
+ghost use Rattle.cc_words.specs.Views.{exporting_by, plain_text};
 
+use crate::mode::{Mode, refuse_fault};
 use bumpalo::Bump;
 use cc_arena::{GroundQuery, Terms};
 use cc_defs::{Fault, Query, Refusal};
-use cc_describe::Described;
+use cc_describe::{Described, DescribedWide, Heads};
 use cc_dimacs::{export_heading, export_line};
 use cc_form::Form;
 use cc_laws::query_steps;
 use cc_list::{laws_of, query_named, query_of};
-use cc_lists::form_at;
 use cc_ports::{Desk, To};
-use cc_tell::{Status, Stop, file_named, give, give_lines, refuse};
+use cc_query::form_at;
+use cc_tell::{Status, Stop, give, give_lines};
 use cc_words::ExportAsked;
 use std::alloc::Global;
 
@@ -164,30 +165,38 @@ fn tell_form<D: Desk>(
     Ok(Status::Right)
 }
 
-/// Gives the clause list of a horizon of a query to Out.
-pub(crate) fn export<D: Desk>(
-    alloc: Global,
-    desk: &mut D,
-    described: &Described,
-    asked: &ExportAsked<'_>,
-) -> Result<Status, Stop>
-    requires says { SaysAll heads.Definite described.now }
-    requires forms { HasForms described.now }
-    requires formulas { AsksFormulas described.now }
-    ensures { (exporting : Exporting) →
-        plain_request (requests.Export asked.now) ≡ ToExport exporting →
-        IfSome (D.seen desk.old).told (λ before. Describes heads.Definite before.files
-        exporting.file described.now) → Prints (exporting_promise exporting) false [] (D.seen desk.old) (D.seen desk.new)
-        result }
-{
-    let arena = Bump::new(alloc);
-    let terms = Terms::new(&arena);
-    match exported_form(alloc, described, asked, &terms) {
-        Ok(form) => tell_form(alloc, desk, asked.horizon, &form),
-        Err(Fault::Refused(refusal)) => {
-            let file = file_named(described.files.items(), &refusal);
-            refuse(alloc, desk, &refusal, file)
+impl<'a> Mode for ExportAsked<'a> {
+    ghost promise = { λ asked. exporting_promise (exporting_by asked) };
+
+    ghost which = { λ asked. heads.Definite };
+
+    ghost file = { λ asked. asked.file.now };
+
+    ghost behind = { λ asked. [] };
+
+    ghost within = { λ asked. Unit {0} };
+
+    fn heads(&self) -> Heads {
+        Heads::Definite
+    }
+
+    fn file(&self) -> &str {
+        self.file
+    }
+
+    // Gives the clause list of a horizon of a query to Out.
+    fn answer<D: Desk>(
+        &self,
+        alloc: Global,
+        desk: &mut D,
+        said: &DescribedWide,
+    ) -> Result<Status, Stop> {
+        let described = &said.described;
+        let arena = Bump::new(alloc);
+        let terms = Terms::new(&arena);
+        match exported_form(alloc, described, self, &terms) {
+            Ok(form) => tell_form(alloc, desk, self.horizon, &form),
+            Err(fault) => refuse_fault(alloc, desk, described, &fault),
         }
-        Err(Fault::OutOfMemory) => Err(Stop::OutOfMemory),
     }
 }

@@ -6,26 +6,26 @@ ghost use Rattle.cc_describe.specs.declared.heads.Heads.TheVariants as heads;
 ghost use Rattle.cc_describe.specs.Describing.{AsksFormulas, DescribesWide, HasWideForms, SaysAllWide};
 ghost use Rattle.cc_general.specs.GeneralRuns.{GeneralRun};
 ghost use Rattle.cc_general.specs.Generals.{HasMore, IsGeneralOf, IsSame, Stands, left_of};
-ghost use Rattle.cc_run.specs.Generals.{IsGeneralOfSome, IsWritableGeneral, TellsGeneralEvent, TellsGenerally, generally_given};
+ghost use Rattle.cc_run.specs.Generals.{IsGeneralOfSome, IsSearchableWide, IsWritableGeneral, StandsForWide, TellsGeneralEvent, TellsGenerally, generally_given};
 ghost use Rattle.cc_run.specs.Modes.Generally.{general_promise, NamesWide, named_generally};
-ghost use Rattle.cc_run.specs.Generals.{IsSearchableWide, StandsForWide};
 ghost use Rattle.cc_list.specs.Stops.{Prints};
 ghost use Rattle.cc_sorts.specs.Tables.{IsSignatureFor};
 ghost use Rattle.cc_tell.specs.Givens.{nothing};
 ghost use Rattle.cc_wide.specs.WideLaws.{WideDescription};
 ghost use Rattle.cc_words.specs.Requests.{Generally, ToListGenerally};
-ghost use Rattle.cc_words.specs.Views.{plain_request};
 ghost use Rattle.cc_words.specs.declared.asked.Asked.TheVariants as requests;
+ghost use Rattle.cc_words.specs.Views.{generally_by, plain_request};
 
+use crate::mode::{Mode, refuse_fault};
 use crate::wide::{PreparedWide, prepare_wide};
 use bumpalo::Bump;
 use cc_arena::Terms;
 use cc_defs::Fault;
-use cc_describe::DescribedWide;
+use cc_describe::{DescribedWide, Heads};
 use cc_general::GeneralTurns;
 use cc_general::theorems::general_logs_are_accepted;
 use cc_ports::{Desk, To};
-use cc_tell::{Status, Stop, begin_log, file_named, give, refuse, tell_limit};
+use cc_tell::{Status, Stop, begin_log, give, tell_limit};
 use cc_tell_modes::tell_general;
 use cc_words::GeneralAsked;
 use std::alloc::Global;
@@ -159,36 +159,33 @@ fn list_generally<D: Desk>(
     tell_run(alloc, desk, said, prepared, asked.count, asked.budget)
 }
 
-/// Lists the first histories of a query by the definition of a model itself.
-pub(crate) fn general<D: Desk>(
-    alloc: Global,
-    desk: &mut D,
-    said: &DescribedWide,
-    asked: &GeneralAsked<'_>,
-) -> Result<Status, Stop>
-    requires count { IfSome asked.now.count (λ count. 1 ≤ count) }
-    requires budget { asked.now.budget ≤ 2000000 }
-    requires says { SaysAllWide heads.Any said.now }
-    requires forms { HasWideForms said.now }
-    requires formulas { AsksFormulas said.now.described }
-    ensures { (generally : Generally) →
-        plain_request (requests.General asked.now) ≡ ToListGenerally generally →
-        IfSome (D.seen desk.old).told (λ before. DescribesWide heads.Any before.files generally.file
-        said.now) → Prints (general_promise generally) (is_some generally.log) [] (D.seen desk.old) (D.seen desk.new)
-        result }
-{
-    let arena = Bump::new(alloc);
-    let terms = Terms::new(&arena);
-    match prepare_wide(alloc, said, asked.query, &terms) {
-        Ok(prepared) => {
-            let told = list_generally(alloc, desk, said, asked, &prepared);
-            drop(prepared);
-            told
+impl<'a> Mode for GeneralAsked<'a> {
+    ghost promise = { λ asked. general_promise (generally_by asked) };
+    ghost which = { λ asked. heads.Any };
+    ghost file = { λ asked. asked.file.now };
+    ghost behind = { λ asked. [] };
+    ghost within = { λ asked. IfSome asked.count (λ count. 1 ≤ count) × (asked.budget ≤ 2000000) };
+
+    fn heads(&self) -> Heads {
+        Heads::Any
+    }
+
+    fn file(&self) -> &str {
+        self.file
+    }
+
+    // Lists the first histories of a query by the definition of a model itself.
+    fn answer<D: Desk>(
+        &self,
+        alloc: Global,
+        desk: &mut D,
+        said: &DescribedWide,
+    ) -> Result<Status, Stop> {
+        let arena = Bump::new(alloc);
+        let terms = Terms::new(&arena);
+        match prepare_wide(alloc, said, self.query, &terms) {
+            Ok(prepared) => list_generally(alloc, desk, said, self, &prepared),,
+            Err(fault) => refuse_fault(alloc, desk, &said.described, &fault),
         }
-        Err(Fault::Refused(refusal)) => {
-            let file = file_named(said.described.files.items(), &refusal);
-            refuse(alloc, desk, &refusal, file)
-        }
-        Err(Fault::OutOfMemory) => Err(Stop::OutOfMemory),
     }
 }

@@ -1,109 +1,95 @@
 //! Generalcheck mode: a log of rivals is judged.
-ghost use Rattle.std.specs.Prelude.{◌≡◌, ◌≤◌, [], ◌∷◌, false, IfSome, length};
-ghost use Rattle.cc_defs.specs.Limits.{limit_number};
-ghost use Rattle.cc_defs.specs.declared.refusal.LimitAt.TheVariants as limits;
+ghost use Rattle.std.specs.Prelude.{[], ◌∷◌};
 ghost use Rattle.cc_defs.specs.Resolved.{Query};
 ghost use Rattle.cc_describe.specs.declared.heads.Heads.TheVariants as heads;
-ghost use Rattle.cc_describe.specs.Describing.{AsksFormulas, DescribesWide, HasWideForms, SaysAllWide};
-ghost use Rattle.cc_run.specs.Modes.CheckingGeneral.{general_checking_promise, NamesGeneralLog, named_for_general};
-ghost use Rattle.cc_run.specs.Modes.Generally.{NamesWide};
+ghost use Rattle.cc_run.specs.Modes.CheckingGeneral.{general_checking_promise, general_judging};
 ghost use Rattle.cc_run.specs.Generals.{IsSearchableWide, StandsForWide};
-ghost use Rattle.cc_list.specs.Stops.{Prints};
 ghost use Rattle.cc_wide.specs.WideLaws.{WideDescription};
-ghost use Rattle.cc_words.specs.Requests.{GeneralChecking, ToCheckGeneral};
-ghost use Rattle.cc_words.specs.Views.{plain_request};
-ghost use Rattle.cc_words.specs.declared.asked.Asked.TheVariants as requests;
+ghost use Rattle.cc_words.specs.Views.{general_checking_by};
 
+use crate::judging::{Judge, judge_log};
+use crate::mode::{Mode, refuse_fault};
 use crate::wide::{PreparedWide, prepare_wide};
 use bumpalo::Bump;
 use cc_arena::Terms;
 use cc_check::SilentVerdict;
-use cc_defs::{Fault, LimitAt, Refusal};
-use cc_describe::DescribedWide;
-use cc_ports::{Desk, ReadStop, read_all};
-use cc_silent::check_general;
-use cc_tell::{Status, Stop, file_named, refuse};
+use cc_defs::Fault;
+use cc_describe::{DescribedWide, Heads};
+use cc_general::check_general;
+use cc_ports::Desk;
+use cc_tell::{Status, Stop};
 use cc_tell_modes::tell_silent_verdict;
 use cc_words::CheckGeneralAsked;
 use std::alloc::Global;
 
-/// Judges the bytes of a log.
-fn check_log<D: Desk>(
-    alloc: Global,
-    desk: &mut D,
-    said: &DescribedWide,
-    prepared: &PreparedWide<'_>,
-    bytes: &[u8],
-) -> Result<Status, Stop>
-    requires searchable { IsSearchableWide said.now.described prepared.now }
-    requires few { length bytes.now ≤ limit_number limits.LogBytes }
-    ensures { (checking : GeneralChecking) (w : WideDescription) (q : Query) →
-        StandsForWide said.now.described prepared.now w q →
-        IfSome (D.seen desk.old).told (λ before. NamesGeneralLog before.files checking w q
-        bytes.now) → Prints (general_checking_promise checking) false [] (D.seen desk.old) (D.seen desk.new) result }
-{
-    match check_general(
-        alloc,
-        &said.described.sig,
-        &prepared.laws,
-        &prepared.query,
-        bytes,
-    ) {
-        Ok(verdict) => {
-            tell_silent_verdict(alloc, desk, "histories", SilentVerdict::from(verdict))
-        }
-        Err(Fault::Refused(refusal)) => refuse(alloc, desk, &refusal, ""),
-        Err(Fault::OutOfMemory) => Err(Stop::OutOfMemory),
+/// Logs of rivals by a query that is prepared.
+struct GeneralLog<'a, 'b> {
+    said: &'b DescribedWide,
+    prepared: &'b PreparedWide<'a>,
+}
+
+impl<'a, 'b> Judge for GeneralLog<'a, 'b> {
+    type Verdict = SilentVerdict;
+
+    ghost Subject = { WideDescription × Query };
+    ghost about = { λ judge of. StandsForWide judge.said.now.described judge.prepared.now of.0 of.1 };
+    ghost ready = { λ judge. IsSearchableWide judge.said.now.described judge.prepared.now };
+    ghost Is = { general_judging.Is };
+    ghost Passes = { general_judging.Passes };
+    ghost line = { general_judging.line };
+    ghost ends = { general_judging.status };
+
+    fn judge(&self, alloc: Global, bytes: &[u8]) -> Result<SilentVerdict, Fault> {
+        let verdict = check_general(
+            alloc,
+            &self.said.described.sig,
+            &self.prepared.laws,
+            &self.prepared.query,
+            bytes,
+        )?;
+        Ok(SilentVerdict::from(verdict))
+    }
+
+    fn tell<D: Desk>(
+        alloc: Global,
+        desk: &mut D,
+        verdict: &SilentVerdict,
+    ) -> Result<Status, Stop> {
+        tell_silent_verdict(alloc, desk, "histories", *verdict)
     }
 }
 
-/// Reads the log and judges it.
-fn check_over<D: Desk>(
-    alloc: Global,
-    desk: &mut D,
-    said: &DescribedWide,
-    prepared: &PreparedWide<'_>,
-    log: &str,
-) -> Result<Status, Stop>
-    requires searchable { IsSearchableWide said.now.described prepared.now }
-    ensures { (checking : GeneralChecking) (w : WideDescription) (q : Query) →
-        log.now ≡ checking.log →
-        StandsForWide said.now.described prepared.now w q →
-        IfSome (D.seen desk.old).told (λ before. NamesWide before.files (named_for_general checking)
-        w q) → Prints (general_checking_promise checking) false (log.now ∷ []) (D.seen desk.old) (D.seen desk.new) result }
-{
-    match read_all(alloc, desk, log, LimitAt::LogBytes.number() as usize) {
-        Ok(bytes) => check_log(alloc, desk, said, prepared, bytes.items()),
-        Err(ReadStop::Limit) => refuse(alloc, desk, &Refusal::past(LimitAt::LogBytes), ""),
-        Err(ReadStop::Failed) => Err(Stop::ReadFault),
-        Err(ReadStop::OutOfMemory) => Err(Stop::OutOfMemory),
-    }
-}
+impl<'a> Mode for CheckGeneralAsked<'a> {
+    ghost promise = { λ asked. general_checking_promise (general_checking_by asked) };
 
-/// Judges a log of rivals.
-pub(crate) fn check<D: Desk>(
-    alloc: Global,
-    desk: &mut D,
-    said: &DescribedWide,
-    asked: &CheckGeneralAsked<'_>,
-) -> Result<Status, Stop>
-    requires says { SaysAllWide heads.Any said.now }
-    requires forms { HasWideForms said.now }
-    requires formulas { AsksFormulas said.now.described }
-    ensures { (checking : GeneralChecking) →
-        plain_request (requests.CheckGeneral asked.now) ≡ ToCheckGeneral checking →
-        IfSome (D.seen desk.old).told (λ before. DescribesWide heads.Any before.files checking.file
-        said.now) → Prints (general_checking_promise checking) false (asked.now.log.now ∷ []) (D.seen desk.old)
-        (D.seen desk.new) result }
-{
-    let arena = Bump::new(alloc);
-    let terms = Terms::new(&arena);
-    match prepare_wide(alloc, said, asked.query, &terms) {
-        Ok(prepared) => check_over(alloc, desk, said, &prepared, asked.log),
-        Err(Fault::Refused(refusal)) => {
-            let file = file_named(said.described.files.items(), &refusal);
-            refuse(alloc, desk, &refusal, file)
+    ghost which = { λ asked. heads.Any };
+
+    ghost file = { λ asked. asked.file.now };
+
+    ghost behind = { λ asked. asked.log.now ∷ [] };
+
+    ghost within = { λ asked. Unit {0} };
+
+    fn heads(&self) -> Heads {
+        Heads::Any
+    }
+
+    fn file(&self) -> &str {
+        self.file
+    }
+
+    // Judges a log of rivals.
+    fn answer<D: Desk>(
+        &self,
+        alloc: Global,
+        desk: &mut D,
+        said: &DescribedWide,
+    ) -> Result<Status, Stop> {
+        let arena = Bump::new(alloc);
+        let terms = Terms::new(&arena);
+        match prepare_wide(alloc, said, self.query, &terms) {
+            Ok(prepared) => judge_log(alloc, desk, self.log, &GeneralLog { said, prepared: &prepared }),
+            Err(fault) => refuse_fault(alloc, desk, &said.described, &fault),
         }
-        Err(Fault::OutOfMemory) => Err(Stop::OutOfMemory),
     }
 }

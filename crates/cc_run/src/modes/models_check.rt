@@ -1,14 +1,11 @@
 //! Modelscheck mode: a log of the models of a CNF is judged.
-ghost use Rattle.std.specs.Prelude.{◌≡◌, ◌≤◌, [], ◌∷◌, false, IfOk, IfSome, Some, length};
-ghost use Rattle.cc_defs.specs.Limits.{limit_number};
-ghost use Rattle.cc_defs.specs.declared.refusal.LimitAt.TheVariants as limits;
+ghost use Rattle.std.specs.Prelude.{◌≡◌, false, IfOk};
 ghost use Rattle.cc_dimacs.specs.Cnfs.{PlainCnf};
 ghost use Rattle.cc_print.specs.Models.{models_verdict_line};
 ghost use Rattle.cc_run.specs.CnfForms.{IsFormOf};
 ghost use Rattle.cc_run.specs.Modes.Checking as checks;
-ghost use Rattle.cc_run.specs.Modes.CheckingModels.{models_checking_promise};
-ghost use Rattle.cc_run.specs.Modes.Modelling.{IsCnfIn};
-ghost use Rattle.cc_list.specs.Stops.{Prints, PrintsAsked};
+ghost use Rattle.cc_run.specs.Modes.CheckingModels.{models_checking_promise, models_judging};
+ghost use Rattle.cc_list.specs.Stops.{PrintsAsked};
 ghost use Rattle.cc_tell.specs.Steps.{Step};
 ghost use Rattle.cc_tell.specs.Givens.{only_out};
 ghost use Rattle.cc_words.specs.Requests.{ModelChecking, ToCheckModels};
@@ -16,24 +13,16 @@ ghost use Rattle.cc_words.specs.Views.{plain_request};
 ghost use Rattle.cc_words.specs.declared.asked.Asked.TheVariants as requests;
 
 use crate::cnfs::{CnfStop, name_of, read_form};
-use cc_defs::{LimitAt, LogVerdict, Refusal};
+use crate::judging::{Judge, judge_log};
+use crate::modes::check::verdict_status;
+use cc_defs::{Fault, LogVerdict};
 use cc_form::Form;
 use cc_judge::judge_over;
-use cc_ports::{Desk, ReadStop, To, read_all};
+use cc_ports::{Desk, To};
 use cc_print::models_verdict_text;
 use cc_tell::{Status, Stop, give, refuse};
 use cc_words::CheckModelsAsked;
 use std::alloc::Global;
-
-/// The status of a run with this verdict.
-fn verdict_status(verdict: &LogVerdict) -> Status
-    ensures { result ≡ checks.verdict_status verdict.now }
-{
-    match verdict {
-        LogVerdict::Accepted { .. } => Status::Right,
-        LogVerdict::Refused { .. } => Status::Not,
-    }
-}
 
 /// Tells a verdict by its line.
 fn tell_verdict<D: Desk>(alloc: Global, desk: &mut D, verdict: &LogVerdict) -> Result<Status, Stop>
@@ -46,37 +35,28 @@ fn tell_verdict<D: Desk>(alloc: Global, desk: &mut D, verdict: &LogVerdict) -> R
     Ok(verdict_status(verdict))
 }
 
-/// Judges the bytes of a log.
-fn check_log<D: Desk>(
-    alloc: Global,
-    desk: &mut D,
-    form: &Form,
-    bytes: &[u8],
-) -> Result<Status, Stop>
-    requires few { length bytes.now ≤ limit_number limits.LogBytes }
-    ensures { (checking : ModelChecking) (cnf : PlainCnf) →
-        IsFormOf cnf form.now →
-        IfSome (D.seen desk.old).told (λ c. IsCnfIn c.files checking.file cnf) →
-        IfSome (D.seen desk.old).told (λ c. c.files checking.log ≡ Some bytes.now) →
-        Prints (models_checking_promise checking) false [] (D.seen desk.old) (D.seen desk.new) result }
-{
-    let verdict = judge_over(alloc, form, bytes)?;
-    tell_verdict(alloc, desk, &verdict)
+/// Logs of the models of a clause list.
+struct ModelsLog<'b> {
+    form: &'b Form,
 }
 
-/// Reads the log and judges it.
-fn check_over<D: Desk>(alloc: Global, desk: &mut D, form: &Form, log: &str) -> Result<Status, Stop>
-    ensures { (checking : ModelChecking) (cnf : PlainCnf) →
-        log.now ≡ checking.log →
-        IsFormOf cnf form.now → IfSome (D.seen desk.old).told
-        (λ c. IsCnfIn c.files checking.file cnf) →
-        Prints (models_checking_promise checking) false (log.now ∷ []) (D.seen desk.old) (D.seen desk.new) result }
-{
-    match read_all(alloc, desk, log, LimitAt::LogBytes.number() as usize) {
-        Ok(bytes) => check_log(alloc, desk, form, bytes.items()),
-        Err(ReadStop::Limit) => refuse(alloc, desk, &Refusal::past(LimitAt::LogBytes), ""),
-        Err(ReadStop::Failed) => Err(Stop::ReadFault),
-        Err(ReadStop::OutOfMemory) => Err(Stop::OutOfMemory),
+impl<'b> Judge for ModelsLog<'b> {
+    type Verdict = LogVerdict;
+
+    ghost Subject = { PlainCnf };
+    ghost about = { λ judge cnf. IsFormOf cnf judge.form.now };
+    ghost ready = { λ judge. Unit {0} };
+    ghost Is = { models_judging.Is };
+    ghost Passes = { models_judging.Passes };
+    ghost line = { models_judging.line };
+    ghost ends = { models_judging.status };
+
+    fn judge(&self, alloc: Global, bytes: &[u8]) -> Result<LogVerdict, Fault> {
+        Ok(judge_over(alloc, self.form, bytes)?)
+    }
+
+    fn tell<D: Desk>(alloc: Global, desk: &mut D, verdict: &LogVerdict) -> Result<Status, Stop> {
+        tell_verdict(alloc, desk, verdict)
     }
 }
 
@@ -91,7 +71,7 @@ pub(crate) fn check<D: Desk>(
         PrintsAsked (models_checking_promise checking) false (D.seen desk.old) (D.seen desk.new) result }
 {
     match read_form(alloc, desk, asked.file) {
-        Ok(form) => check_over(alloc, desk, &form, asked.log),
+        Ok(form) => judge_log(alloc, desk, asked.log, &ModelsLog { form: &form }),
         Err(CnfStop::Refused(refusal)) => {
             refuse(alloc, desk, &refusal, name_of(asked.file, &refusal))
         }

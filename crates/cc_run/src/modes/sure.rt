@@ -14,20 +14,21 @@ ghost use Rattle.cc_sure.specs.SureRuns.{SureRun};
 ghost use Rattle.cc_sure.specs.Sures.{HasMore, IsSame, IsSureOf, Stands, left_of};
 ghost use Rattle.cc_tell.specs.Givens.{nothing};
 ghost use Rattle.cc_words.specs.Requests.{Surely, ToBeSure};
-ghost use Rattle.cc_words.specs.Views.{plain_request};
 ghost use Rattle.cc_words.specs.declared.asked.Asked.TheVariants as requests;
+ghost use Rattle.cc_words.specs.Views.{plain_request, surely_by};
 
+use crate::mode::{Mode, refuse_fault};
 use crate::unclaimed::prepare_unclaimed;
 use bumpalo::Bump;
 use cc_arena::Terms;
 use cc_defs::Fault;
 use cc_defs::theorems::positions_have_sizes;
-use cc_describe::Described;
+use cc_describe::{Described, DescribedWide, Heads};
 use cc_list::Prepared;
 use cc_ports::{Desk, To};
 use cc_sure::SureTurns;
 use cc_sure::theorems::sure_logs_are_accepted;
-use cc_tell::{Status, Stop, begin_log, file_named, give, refuse, tell_limit};
+use cc_tell::{Status, Stop, begin_log, give, tell_limit};
 use cc_tell_modes::tell_sure;
 use cc_words::SureAsked;
 use std::alloc::Global;
@@ -159,34 +160,34 @@ fn be_sure<D: Desk>(
     tell_run(alloc, desk, described, prepared, asked.budget)
 }
 
-/// Tells of each atom of the first horizon that has a history whether all of them have it, some or none.
-pub(crate) fn sure<D: Desk>(
-    alloc: Global,
-    desk: &mut D,
-    described: &Described,
-    asked: &SureAsked<'_>,
-) -> Result<Status, Stop>
-    requires budget { asked.now.budget ≤ 2000000 }
-    requires says { SaysAll heads.Definite described.now }
-    requires forms { HasForms described.now }
-    requires formulas { AsksFormulas described.now }
-    ensures { (surely : Surely) → plain_request (requests.Sure asked.now) ≡ ToBeSure surely →
-        IfSome (D.seen desk.old).told (λ before. Describes heads.Definite before.files surely.file
-        described.now) → Prints (sure_promise surely) (is_some surely.log) [] (D.seen desk.old) (D.seen desk.new)
-        result }
-{
-    let arena = Bump::new(alloc);
-    let terms = Terms::new(&arena);
-    match prepare_unclaimed(alloc, described, asked.query, &terms) {
-        Ok(prepared) => {
-            let told = be_sure(alloc, desk, described, asked, &prepared);
-            drop(prepared);
-            told
+impl<'a> Mode for SureAsked<'a> {
+    ghost promise = { λ asked. sure_promise (surely_by asked) };
+    ghost which = { λ asked. heads.Definite };
+    ghost file = { λ asked. asked.file.now };
+    ghost behind = { λ asked. [] };
+    ghost within = { λ asked. asked.budget ≤ 2000000 };
+
+    fn heads(&self) -> Heads {
+        Heads::Definite
+    }
+
+    fn file(&self) -> &str {
+        self.file
+    }
+
+    // Tells of each atom of the first horizon that has a history whether all of them have it, some or none.
+    fn answer<D: Desk>(
+        &self,
+        alloc: Global,
+        desk: &mut D,
+        said: &DescribedWide,
+    ) -> Result<Status, Stop> {
+        let described = &said.described;
+        let arena = Bump::new(alloc);
+        let terms = Terms::new(&arena);
+        match prepare_unclaimed(alloc, described, self.query, &terms) {
+            Ok(prepared) => be_sure(alloc, desk, described, self, &prepared),,
+            Err(fault) => refuse_fault(alloc, desk, described, &fault),
         }
-        Err(Fault::Refused(refusal)) => {
-            let file = file_named(described.files.items(), &refusal);
-            refuse(alloc, desk, &refusal, file)
-        }
-        Err(Fault::OutOfMemory) => Err(Stop::OutOfMemory),
     }
 }

@@ -16,15 +16,17 @@ ghost use Rattle.cc_tell.specs.Givens.{only_out};
 ghost use Rattle.cc_theory.specs.Theories.{AreLawsFor, AreLawsOf};
 ghost use Rattle.cc_words.specs.Requests.{Explaining};
 ghost use Rattle.cc_words.specs.Words.{Text};
+ghost use Rattle.cc_words.specs.Views.{explaining_by};
 
+use crate::mode::{Mode, refuse_fault};
 use crate::rows::{LookedAt, look_at};
 use bumpalo::Bump;
 use cc_arena::{Laws, Terms};
+use cc_defs::Key;
 use cc_defs::theorems::positions_have_sizes;
-use cc_defs::{Fault, Key};
-use cc_describe::Described;
+use cc_describe::{Described, DescribedWide, Heads};
 use cc_ports::{Desk, To};
-use cc_tell::{Status, Stop, file_named, give, refuse};
+use cc_tell::{Status, Stop, give};
 use cc_tell_modes::tell_causes;
 use cc_why::why;
 use std::alloc::Global;
@@ -96,29 +98,38 @@ fn explain_row<D: Desk>(
     tell_none(desk)
 }
 
-/// Explains the row of a key.
-pub(crate) fn explain<D: Desk>(
-    alloc: Global,
-    desk: &mut D,
-    described: &Described,
-    key: &str,
-) -> Result<Status, Stop>
-    requires says { SaysAll heads.Definite described.now }
-    requires forms { HasForms described.now }
-    ensures { (explaining : Explaining) →
-        explaining.key ≡ key.now →
-        IfSome (D.seen desk.old).told (λ before. Describes heads.Definite before.files
-        explaining.file described.now) → Prints (explaining_promise explaining) false [] (D.seen desk.old) (D.seen desk.new)
-        result }
-{
-    let arena = Bump::new(alloc);
-    let terms = Terms::new(&arena);
-    match look_at(alloc, described, key, &terms) {
-        Ok(row) => explain_row(alloc, desk, described, &row),
-        Err(Fault::Refused(refusal)) => {
-            let file = file_named(described.files.items(), &refusal);
-            refuse(alloc, desk, &refusal, file)
+impl<'a> Mode for ExplainAsked<'a> {
+    ghost promise = { λ asked. explaining_promise (explaining_by asked) };
+
+    ghost which = { λ asked. heads.Definite };
+
+    ghost file = { λ asked. asked.file.now };
+
+    ghost behind = { λ asked. [] };
+
+    ghost within = { λ asked. Unit {0} };
+
+    fn heads(&self) -> Heads {
+        Heads::Definite
+    }
+
+    fn file(&self) -> &str {
+        self.file
+    }
+
+    // Tells why the row of a key has its values, or that it is no history.
+    fn answer<D: Desk>(
+        &self,
+        alloc: Global,
+        desk: &mut D,
+        said: &DescribedWide,
+    ) -> Result<Status, Stop> {
+        let described = &said.described;
+        let arena = Bump::new(alloc);
+        let terms = Terms::new(&arena);
+        match look_at(alloc, described, self.key, &terms) {
+            Ok(row) => explain_row(alloc, desk, described, &row),
+            Err(fault) => refuse_fault(alloc, desk, described, &fault),
         }
-        Err(Fault::OutOfMemory) => Err(Stop::OutOfMemory),
     }
 }

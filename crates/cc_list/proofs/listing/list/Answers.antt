@@ -3,7 +3,8 @@ use Rattle.cc_describe.specs.declared.description.DescribeStop.TheVariants as st
 use Rattle.cc_describe.specs.declared.heads.Heads.TheVariants as heads
 use Rattle.cc_describe.specs.Describing.{Describes, HasStopped}
 use Rattle.cc_describe.specs.Places.{Files}
-use Rattle.cc_list.specs.Listing.{listing_by, listing_promise}
+use Rattle.cc_list.specs.Listing.{listing_promise}
+use Rattle.cc_words.specs.Views.{listing_by}
 use Rattle.cc_list.specs.Tasks.{named_by}
 use Rattle.cc_ports.specs.Calls.{names_opened}
 use Rattle.cc_tell.specs.declared.status.Stop.TheVariants as run_stops
@@ -36,7 +37,7 @@ returns-in-Err-Refused g c =
     (called_reading _ _ read.calls.0 read.calls.1 read.calls.2 read.calls.4) (read.calm (refused_is_no_fault _ refusal file c.in-Err-Refused.field-0-is))
     (prints_refusal (listing_promise listing) _ [] refusal c.text.result.now _ _ c.refuse.result tt
     (rw c.text.ensures (known _ (λ before. HasRefused before.files) (λ before. (listing_promise listing).Refuses before.files refusal file)
-    (λ before stopped. inl (stopped_refuses heads.Definite before.files (named_by listing) refusal file stopped)) there))
+    (λ before stopped. inl (stopped_refuses heads.Definite before.files listing.file refusal file stopped)) there))
     c.refuse.ensures.told c.refuse.ensures.status))
 
 pub returns-in-Err-ReadFault : goal.returns-in-Err-ReadFault

@@ -1,7 +1,8 @@
 use Rattle.std.proofs.Common.{[], ◌∙◌, ap, refl}
 use Rattle.cc_describe.specs.declared.heads.Heads.TheVariants as heads
 use Rattle.cc_describe.specs.FirstRefusal.{file_named}
-use Rattle.cc_list.specs.Listing.{listing_by, listing_promise}
+use Rattle.cc_list.specs.Listing.{listing_promise}
+use Rattle.cc_words.specs.Views.{listing_by}
 use Rattle.cc_list.specs.Tasks.{AreRead, description_in, named_by}
 use Rattle.cc_list.proofs.Described.{description_is, is_read, named_refused, task_read}
 use Rattle.cc_list.proofs.Outcomes.{known, prints_lacking, prints_refusal}

@@ -1,6 +1,7 @@
 use Rattle.std.proofs.Common.{Err, refl}
 use Rattle.cc_defs.specs.Runs.{optional}
-use Rattle.cc_list.specs.Listing.{listing_by, listing_promise}
+use Rattle.cc_list.specs.Listing.{listing_promise}
+use Rattle.cc_words.specs.Views.{listing_by}
 use Rattle.cc_list.proofs.Outcomes.{begins_named, lists_for, prints_search, prints_unbegun}
 use Rattle.cc_list.proofs.listing.list_prepared.Goals as goal
 

@@ -1,4 +1,5 @@
-use Rattle.cc_list.specs.Listing.{listing_by, listing_promise}
+use Rattle.cc_list.specs.Listing.{listing_promise}
+use Rattle.cc_words.specs.Views.{listing_by}
 use Rattle.cc_list.proofs.WholeRuns.{list_may, runs_ended, runs_stopped}
 use Rattle.cc_list.proofs.running.list_to_end.Goals as goal
 

@@ -4,7 +4,7 @@ use Rattle.cc_list.specs.Promises.{refused_words}
 use Rattle.cc_list.specs.Tasks.{refusal_without_place, request_of}
 use Rattle.cc_list.proofs.Outcomes.{asked_lacking, prints_refusal, prints_unopened, refused_known}
 use Rattle.cc_run.proofs.Promised.{some_asked_of}
-use Rattle.cc_run.proofs.Readings.{printed_as}
+use Rattle.cc_run.proofs.Reading.{printed_as}
 use Rattle.cc_list.proofs.Requests.{asked_is, asked_none, request_within}
 use Rattle.cc_run.proofs.top.answer.Goals as goal
 
