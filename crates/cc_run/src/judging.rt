@@ -19,12 +19,17 @@ pub(crate) trait Judge {
 
     // What its logs are of, and that they are to be of this; that it can judge.
     ghost Subject: { Type 0 };
+
     ghost about: { Self → Subject → Type 0 };
+
     ghost ready: { Self → Type 0 };
     // That this is the verdict on a log, and that a log reaches a section that passes a limit; the line and the status of a verdict.
     ghost Is: { Subject → List ℕ → Self.Verdict → Type 0 };
+
     ghost Passes: { Subject → List ℕ → RefusalAt → Type 0 };
+
     ghost line: { Self.Verdict → List ℕ };
+
     ghost ends: { Self.Verdict → Ends };
 
     /// The verdict on the bytes of a log. Refuses a section that passes a limit.
@@ -37,11 +42,7 @@ pub(crate) trait Judge {
             IfErr result (IsLogFault (Passes subject bytes.now)) };
 
     /// Tells a verdict by its line, and answers its status.
-    fn tell<D: Desk>(
-        alloc: Global,
-        desk: &mut D,
-        verdict: &Self::Verdict,
-    ) -> Result<Status, Stop>
+    fn tell<D: Desk>(alloc: Global, desk: &mut D, verdict: &Self::Verdict) -> Result<Status, Stop>
         ensures told { Step (only_out (line verdict.now)) (D.seen desk.old) (D.seen desk.new)
             result }
         ensures status { IfOk result (λ status. status ≡ ends verdict.now) };

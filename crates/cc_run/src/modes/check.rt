@@ -59,13 +59,19 @@ impl<'a, 'b> Judge for QueryLog<'a, 'b> {
     type Verdict = LogVerdict;
 
     ghost Subject = { Task };
+
     ghost about = { λ judge task. StandsFor judge.described.now judge.prepared.now task.description
         task.query × (task.ask.after ≡ judge.prepared.now.key) };
+
     ghost ready = { λ judge. IsSearchable judge.described.now judge.prepared.now
         judge.prepared.now.key };
+
     ghost Is = { query_judging.Is };
+
     ghost Passes = { query_judging.Passes };
+
     ghost line = { query_judging.line };
+
     ghost ends = { query_judging.status };
 
     fn judge(&self, alloc: Global, bytes: &[u8]) -> Result<LogVerdict, Fault> {
@@ -114,7 +120,15 @@ impl<'a> Mode for CheckAsked<'a> {
         let arena = Bump::new(alloc);
         let terms = Terms::new(&arena);
         match prepare(alloc, described, self.query, self.after, &terms) {
-            Ok(prepared) => judge_log(alloc, desk, self.log, &QueryLog { described, prepared: &prepared }),
+            Ok(prepared) => judge_log(
+                alloc,
+                desk,
+                self.log,
+                &QueryLog {
+                    described,
+                    prepared: &prepared,
+                },
+            ),
             Err(fault) => refuse_fault(alloc, desk, described, &fault),
         }
     }

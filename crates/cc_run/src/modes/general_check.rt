@@ -32,11 +32,17 @@ impl<'a, 'b> Judge for GeneralLog<'a, 'b> {
     type Verdict = SilentVerdict;
 
     ghost Subject = { WideDescription × Query };
+
     ghost about = { λ judge of. StandsForWide judge.said.now.described judge.prepared.now of.0 of.1 };
+
     ghost ready = { λ judge. IsSearchableWide judge.said.now.described judge.prepared.now };
+
     ghost Is = { general_judging.Is };
+
     ghost Passes = { general_judging.Passes };
+
     ghost line = { general_judging.line };
+
     ghost ends = { general_judging.status };
 
     fn judge(&self, alloc: Global, bytes: &[u8]) -> Result<SilentVerdict, Fault> {
@@ -50,11 +56,7 @@ impl<'a, 'b> Judge for GeneralLog<'a, 'b> {
         Ok(SilentVerdict::from(verdict))
     }
 
-    fn tell<D: Desk>(
-        alloc: Global,
-        desk: &mut D,
-        verdict: &SilentVerdict,
-    ) -> Result<Status, Stop> {
+    fn tell<D: Desk>(alloc: Global, desk: &mut D, verdict: &SilentVerdict) -> Result<Status, Stop> {
         tell_silent_verdict(alloc, desk, "histories", *verdict)
     }
 }
@@ -88,7 +90,15 @@ impl<'a> Mode for CheckGeneralAsked<'a> {
         let arena = Bump::new(alloc);
         let terms = Terms::new(&arena);
         match prepare_wide(alloc, said, self.query, &terms) {
-            Ok(prepared) => judge_log(alloc, desk, self.log, &GeneralLog { said, prepared: &prepared }),
+            Ok(prepared) => judge_log(
+                alloc,
+                desk,
+                self.log,
+                &GeneralLog {
+                    said,
+                    prepared: &prepared,
+                },
+            ),
             Err(fault) => refuse_fault(alloc, desk, &said.described, &fault),
         }
     }

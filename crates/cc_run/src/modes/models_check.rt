@@ -44,11 +44,17 @@ impl<'b> Judge for ModelsLog<'b> {
     type Verdict = LogVerdict;
 
     ghost Subject = { PlainCnf };
+
     ghost about = { λ judge cnf. IsFormOf cnf judge.form.now };
+
     ghost ready = { λ judge. Unit {0} };
+
     ghost Is = { models_judging.Is };
+
     ghost Passes = { models_judging.Passes };
+
     ghost line = { models_judging.line };
+
     ghost ends = { models_judging.status };
 
     fn judge(&self, alloc: Global, bytes: &[u8]) -> Result<LogVerdict, Fault> {

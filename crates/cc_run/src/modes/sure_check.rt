@@ -33,11 +33,17 @@ impl<'a, 'b> Judge for SureLog<'a, 'b> {
     type Verdict = SilentVerdict;
 
     ghost Subject = { Description × Query };
+
     ghost about = { λ judge of. StandsFor judge.described.now judge.prepared.now of.0 of.1 };
+
     ghost ready = { λ judge. IsSearchable judge.described.now judge.prepared.now None };
+
     ghost Is = { sure_judging.Is };
+
     ghost Passes = { sure_judging.Passes };
+
     ghost line = { sure_judging.line };
+
     ghost ends = { sure_judging.status };
 
     fn judge(&self, alloc: Global, bytes: &[u8]) -> Result<SilentVerdict, Fault> {
@@ -51,11 +57,7 @@ impl<'a, 'b> Judge for SureLog<'a, 'b> {
         Ok(SilentVerdict::from(verdict))
     }
 
-    fn tell<D: Desk>(
-        alloc: Global,
-        desk: &mut D,
-        verdict: &SilentVerdict,
-    ) -> Result<Status, Stop> {
+    fn tell<D: Desk>(alloc: Global, desk: &mut D, verdict: &SilentVerdict) -> Result<Status, Stop> {
         tell_silent_verdict(alloc, desk, "impossible", *verdict)
     }
 }
@@ -90,7 +92,15 @@ impl<'a> Mode for CheckSureAsked<'a> {
         let arena = Bump::new(alloc);
         let terms = Terms::new(&arena);
         match prepare_unclaimed(alloc, described, self.query, &terms) {
-            Ok(prepared) => judge_log(alloc, desk, self.log, &SureLog { described, prepared: &prepared }),
+            Ok(prepared) => judge_log(
+                alloc,
+                desk,
+                self.log,
+                &SureLog {
+                    described,
+                    prepared: &prepared,
+                },
+            ),
             Err(fault) => refuse_fault(alloc, desk, described, &fault),
         }
     }
