@@ -161,9 +161,13 @@ fn list_generally<D: Desk>(
 
 impl<'a> Mode for GeneralAsked<'a> {
     ghost promise = { λ asked. general_promise (generally_by asked) };
+
     ghost which = { λ asked. heads.Any };
+
     ghost file = { λ asked. asked.file.now };
+
     ghost behind = { λ asked. [] };
+
     ghost within = { λ asked. IfSome asked.count (λ count. 1 ≤ count) × (asked.budget ≤ 2000000) };
 
     fn heads(&self) -> Heads {
@@ -184,7 +188,7 @@ impl<'a> Mode for GeneralAsked<'a> {
         let arena = Bump::new(alloc);
         let terms = Terms::new(&arena);
         match prepare_wide(alloc, said, self.query, &terms) {
-            Ok(prepared) => list_generally(alloc, desk, said, self, &prepared),,
+            Ok(prepared) => list_generally(alloc, desk, said, self, &prepared),
             Err(fault) => refuse_fault(alloc, desk, &said.described, &fault),
         }
     }

@@ -162,9 +162,13 @@ fn be_sure<D: Desk>(
 
 impl<'a> Mode for SureAsked<'a> {
     ghost promise = { λ asked. sure_promise (surely_by asked) };
+
     ghost which = { λ asked. heads.Definite };
+
     ghost file = { λ asked. asked.file.now };
+
     ghost behind = { λ asked. [] };
+
     ghost within = { λ asked. asked.budget ≤ 2000000 };
 
     fn heads(&self) -> Heads {
@@ -186,7 +190,7 @@ impl<'a> Mode for SureAsked<'a> {
         let arena = Bump::new(alloc);
         let terms = Terms::new(&arena);
         match prepare_unclaimed(alloc, described, self.query, &terms) {
-            Ok(prepared) => be_sure(alloc, desk, described, self, &prepared),,
+            Ok(prepared) => be_sure(alloc, desk, described, self, &prepared),
             Err(fault) => refuse_fault(alloc, desk, described, &fault),
         }
     }
