@@ -1,7 +1,7 @@
 pub mod AcceptedEmpty
 pub mod AcceptedLines
 pub mod AcceptedSections
-pub mod Forming
+pub mod FormedAt
 pub mod GoodAxioms
 pub mod LinesRead
 pub mod Members

@@ -6,7 +6,7 @@ use Rattle.cc_defs.specs.ClauseLists.{clause_list}
 use Rattle.cc_defs.specs.Refusals.{IsRefusedBy}
 use Rattle.cc_form.specs.Forms.{TellsHistories, asked, form_of, form_refusal}
 use Rattle.cc_theory.specs.Theories.{rules_refusal}
-use Rattle.cc_lists.proofs.Forming.{refused_behind, rules_within, told_of, within_both}
+use Rattle.cc_lists.proofs.FormedAt.{refused_behind, rules_within, told_of, within_both}
 use Rattle.cc_lists.proofs.forming.form_at.Goals as goal
 
 pub returns-clause-refused : goal.returns-clause-refused
