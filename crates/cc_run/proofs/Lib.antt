@@ -8,7 +8,7 @@ pub mod GeneralTexts
 mod GeneralWritten
 pub mod GenerallyTold
 pub mod Judged
-pub mod Judging
+pub mod LogsJudged
 pub mod Made
 pub mod ModelFinds
 pub mod ModelLines

@@ -1,5 +1,5 @@
 -- A run that lists models, or judges a log of them, from its steps.
-use Rattle.std.proofs.Common.{◌≡◌, ◌∙◌, refl, sym, ap, subst, ℕ, zero, suc, ◌<◌, ◌≤◌, Bool, true, false, List, [], length, Option, Some, None, Result, Ok, Err, IfSome, IfOk, inl, inr, append-nil, arith}
+use Rattle.std.proofs.Common.{◌≡◌, ◌∙◌, refl, sym, ap, subst, ℕ, zero, suc, ◌<◌, ◌≤◌, Bool, true, false, List, [], ◌∷◌, length, Option, Some, None, Result, Ok, Err, IfSome, IfOk, inl, inr, append-nil, arith}
 use Rattle.std.specs.Prelude.{is_some, ◌||◌}
 use Rattle.cc_clauses.specs.RowsOf.{IsRowOf}
 use Rattle.cc_clauses.specs.Tells.{Tells}
@@ -23,7 +23,7 @@ use Rattle.cc_print.specs.Models.{models_verdict_line}
 use Rattle.cc_lists.specs.Subjects.{AreGoodAxioms}
 use Rattle.cc_run.specs.CnfForms.{IsFormOf}
 use Rattle.cc_run.specs.Modes.Checking.{verdict_status}
-use Rattle.cc_run.proofs.Judging.{prints_judged}
+use Rattle.cc_run.proofs.LogsJudged.{prints_judged}
 use Rattle.cc_run.specs.Judging.{MayEndJudging, TellsVerdict}
 use Rattle.cc_run.specs.Modes.CheckingModels.{NamesCnf, models_checking_promise, models_judging}
 use Rattle.cc_run.specs.Modes.Modelling.{EndsModels, IsCnfIn, Models, RefusesCnf, modelling_promise}

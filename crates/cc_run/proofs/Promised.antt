@@ -1,5 +1,5 @@
 -- What all promises have in common, whatever words ask for.
-use Rattle.std.proofs.Common.{refl, sym, subst, List, [], Option, Some, None, IfSome}
+use Rattle.std.proofs.Common.{refl, sym, subst, List, [], ◌∷◌, Option, Some, None, IfSome}
 use Rattle.cc_describe.specs.Places.{Files, HasPlaces}
 use Rattle.cc_ports.specs.Contents.{Contents}
 use Rattle.cc_run.specs.Judging.{MayEndJudging}
@@ -50,7 +50,7 @@ some_asked has files (Some (ToExport exporting)) =
     let there = has files exporting.file in
     (_, (there.0, there.1, refl))
 some_asked has files (Some (ToModel modelling)) = (_, refl)
-some_asked has files (Some (ToCheckModels checking)) = (_, refl)
+some_asked has files (Some (ToCheckModels checking)) = (checking.file ∷ checking.log ∷ [], (checking.file ∷ [], refl, refl))
 some_asked has files (Some (ToBeSure surely)) =
     let there = has files surely.file in
     (_, (there.0, there.1, refl))

@@ -64,13 +64,13 @@ pub reads : (which heads : Heads) (file name : Text) (r : Outcome) (x y : Moment
     (IsErrOf r describe_stops.ReadFault → Rose x.reads y.reads) → ((rest : List ℕ) × (y.told ≡ option_map (with_rest rest) x.told)) → y.begun ≡ x.begun →
     ((more : List Call) × (y.calls ≡ with_calls more x.calls) × (names_begun more ≡ []) × IfSome x.told (λ c. OpensFor heads c.files name r (names_opened more)) × AreActs more) →
     ((IsErrOf r describe_stops.ReadFault → ⊥) → IsCalm x y) → x.reads ≤ y.reads → x.writes ≤ y.writes → Reads which file r x y
-reads which heads file name r x y same named described refused failed after begun calls calm reads writes =
+reads which heads file name r x y same named described refused failed after begun calls calm more_reads more_writes =
     subst (λ (f : Text). Reads which f r x y) named (subst (λ (h : Heads). Reads h name r x y) same (record {
       rest = after.0;
       told = after.1;
       begun = begun;
-      reads = reads;
-      writes = writes;
+      reads = more_reads;
+      writes = more_writes;
       opened = names_opened calls.0;
       called = called_reading x y calls.0 calls.1 calls.2 calls.4;
       opens = calls.3;

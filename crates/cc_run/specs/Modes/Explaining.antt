@@ -13,7 +13,7 @@ use Rattle.cc_describe.specs.Places.{Files, Place, opened_in}
 use Rattle.cc_ground.specs.Counting.{laws_refusal}
 use Rattle.cc_print.specs.Keys.{IsKeyText}
 use Rattle.cc_list.specs.Promises.{Promise, IsEndStatus}
-use Rattle.cc_list.specs.Tasks.{AreRead, RefusesDescription, description_in, refusal_without_place}
+use Rattle.cc_list.specs.Tasks.{AreRead, RefusesDescriptionFor, description_in, refusal_without_place}
 use Rattle.cc_run.specs.Naming.{named_to}
 use Rattle.cc_list.specs.Wholes.{Whole}
 use Rattle.cc_tell.specs.declared.status.Status.{Status}

@@ -50,6 +50,7 @@ pub(crate) fn tell_verdict<D: Desk>(
 }
 
 /// Logs of a query that is prepared.
+#[derive(Clone, Copy)]
 struct QueryLog<'a, 'b> {
     described: &'b Described,
     prepared: &'b Prepared<'a>,

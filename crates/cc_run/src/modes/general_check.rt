@@ -23,6 +23,7 @@ use cc_words::CheckGeneralAsked;
 use std::alloc::Global;
 
 /// Logs of rivals by a query that is prepared.
+#[derive(Clone, Copy)]
 struct GeneralLog<'a, 'b> {
     said: &'b DescribedWide,
     prepared: &'b PreparedWide<'a>,

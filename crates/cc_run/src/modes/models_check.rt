@@ -36,6 +36,7 @@ fn tell_verdict<D: Desk>(alloc: Global, desk: &mut D, verdict: &LogVerdict) -> R
 }
 
 /// Logs of the models of a clause list.
+#[derive(Clone, Copy)]
 struct ModelsLog<'b> {
     form: &'b Form,
 }
@@ -61,7 +62,11 @@ impl<'b> Judge for ModelsLog<'b> {
         Ok(judge_over(alloc, self.form, bytes)?)
     }
 
-    fn tell<D: Desk>(alloc: Global, desk: &mut D, verdict: &LogVerdict) -> Result<Status, Stop> {
+    fn tell<D: Desk>(alloc: Global, desk: &mut D, verdict: &LogVerdict) -> Result<Status, Stop>
+        ensures told { Step (only_out (models_verdict_line verdict.now)) (D.seen desk.old)
+            (D.seen desk.new) result }
+        ensures status { IfOk result (λ status. status ≡ checks.verdict_status verdict.now) }
+    {
         tell_verdict(alloc, desk, verdict)
     }
 }

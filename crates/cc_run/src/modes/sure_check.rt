@@ -24,6 +24,7 @@ use cc_words::CheckSureAsked;
 use std::alloc::Global;
 
 /// Logs of what is impossible by a query that is prepared.
+#[derive(Clone, Copy)]
 struct SureLog<'a, 'b> {
     described: &'b Described,
     prepared: &'b Prepared<'a>,

@@ -29,6 +29,7 @@ use cc_ports::{Desk, To};
 use cc_tell::{Status, Stop, give};
 use cc_tell_modes::tell_causes;
 use cc_why::why;
+use cc_words::ExplainAsked;
 use std::alloc::Global;
 
 /// Tells that a row is no history.

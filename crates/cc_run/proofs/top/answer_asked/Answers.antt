@@ -20,4 +20,4 @@ returns-in-Models g c =
 
 pub returns-in-CheckModels : goal.returns-in-CheckModels
 returns-in-CheckModels g c =
-    printed_as _ _ _ _ c.check_models.result (ap some_request (sym c.in-CheckModels.is)) (c.check_models.ensures (models_checking_by c.in-CheckModels.asked) refl)
+    printed_as _ _ _ _ c.check.result (ap some_request (sym c.in-CheckModels.is)) (c.check.ensures (models_checking_by c.in-CheckModels.asked) refl)

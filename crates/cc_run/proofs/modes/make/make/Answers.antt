@@ -20,14 +20,14 @@ returns-in-Err-Refused g c =
     let refused = made_refused c.args.size _ c.describe_with.result c.in-Err-Refused.refusal c.in-Err-Refused.file (ap each_is is)
     (c.in-Err-Refused.is ∙ ap Err c.in-Err-Refused.field-0-is) c.describe_with.ensures.refused in
     prints_unopened promise _ _ _ c.refuse.result (λ files. refl)
-    (prints_refusal promise _ [] c.in-Err-Refused.refusal c.text-3.result.now _ _ c.refuse.result tt
-    (rw c.text-3.ensures (refused_known _ promise c.in-Err-Refused.refusal c.in-Err-Refused.file (λ files. refused))) c.refuse.ensures.told c.refuse.ensures.status)
+    (prints_refusal promise _ [] c.in-Err-Refused.refusal c.text-in-Err-Refused.result.now _ _ c.refuse.result tt
+    (rw c.text-in-Err-Refused.ensures (refused_known _ promise c.in-Err-Refused.refusal c.in-Err-Refused.file (λ files. refused))) c.refuse.ensures.told c.refuse.ensures.status)
 
 pub returns-in-Err-ReadFault : goal.returns-in-Err-ReadFault
 returns-in-Err-ReadFault g c = absurd (no_rose (c.describe_with.ensures.failed (c.in-Err-ReadFault.is ∙ ap Err c.in-Err-ReadFault.field-0-is)))
 
-pub returns-in-Err-OutOfMemory : goal.returns-in-Err-OutOfMemory
-returns-in-Err-OutOfMemory g c =
+pub returns : goal.returns
+returns g c =
     prints_unopened (making_promise c.args.size c.args.budget) _ _ _ _ (λ files. refl) (prints_lacking (making_promise c.args.size c.args.budget) _ [] _ _ refl)
 
 pub returns-in_err-text : goal.returns-in_err-text

@@ -6,7 +6,7 @@ use Rattle.cc_describe.specs.declared.heads.Heads.TheVariants as heads
 use Rattle.cc_describe.specs.Describing.{AreToOpen}
 use Rattle.cc_list.specs.Tasks.{RefusesNamed, description_in}
 use Rattle.cc_list.specs.Telling.{task_to_check}
-use Rattle.cc_run.proofs.Judging.{prints_judged}
+use Rattle.cc_run.proofs.LogsJudged.{prints_judged}
 use Rattle.cc_run.proofs.ModelRuns.{verdict_may}
 use Rattle.cc_run.proofs.Reading.{names_refuse, prints_fault, read_bare}
 use Rattle.cc_run.specs.Modes.Checking.{NamesTask, checking_promise, query_judging}
@@ -25,8 +25,8 @@ returns-in-Ok g c = λ describes.
     (task_read _ (λ files. files) (named_in by) c.args.said.now.described of named.0 _ named.2 None 0)
     (c.judge_log.ensures (task_to_check (description_in of.places) named.0 c.in-Ok.prepared.key) (named.1, refl))
 
-pub returns-in-Err : goal.returns-in-Err
-returns-in-Err g c = λ describes.
+pub returns : goal.returns
+returns g c = λ describes.
     let by = checking_by c.args.self.now in
     let of = read_bare _ by.file c.args.said.now c.requires.read.says describes in
     let refused = c.in-Err.ensures.refused (description_in of.places) (description_is of.places c.args.said.now.described of.said) in

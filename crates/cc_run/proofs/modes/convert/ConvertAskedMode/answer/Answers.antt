@@ -25,8 +25,8 @@ returns-in-Ok g c = λ describes.
     c.convert_over.ensures by (description_in of.places) named.0 refl named.1
     (task_read _ (λ files. files) (named_in (checked_by by)) c.args.said.now.described of named.0 _ named.2 None 0)
 
-pub returns-in-Err : goal.returns-in-Err
-returns-in-Err g c = λ describes.
+pub returns : goal.returns
+returns g c = λ describes.
     let by = converting_by c.args.self.now in
     let of = read_bare _ by.file c.args.said.now c.requires.read.says describes in
     let refused = c.in-Err.ensures.refused (description_in of.places) (description_is of.places c.args.said.now.described of.said) in

@@ -22,8 +22,8 @@ returns-in-Ok g c = λ describes.
     prints_exported by c.args.said.now.described c.in-Ok.form _ _ c.tell_form.result of
     (c.in-Ok.ensures.exported (description_in of.places) (description_is of.places c.args.said.now.described of.said)) c.tell_form.ensures.told c.tell_form.ensures.status
 
-pub returns-in-Err : goal.returns-in-Err
-returns-in-Err g c = λ describes.
+pub returns : goal.returns
+returns g c = λ describes.
     let by = exporting_by c.args.self.now in
     let of = read_bare _ by.file c.args.said.now c.requires.read.says describes in
     let refused = c.in-Err.ensures.refused (description_in of.places) (description_is of.places c.args.said.now.described of.said) in

@@ -30,8 +30,8 @@ returns-in-Ok g c = λ describes.
     let named = c.in-Ok.ensures.named (wide_in of.places) is in
     c.list_generally.ensures by (wide_in of.places) named.0 refl is named.1 (names_wide _ (named_generally by) c.args.said.now of named.0 named.2)
 
-pub returns-in-Err : goal.returns-in-Err
-returns-in-Err g c = λ describes.
+pub returns : goal.returns
+returns g c = λ describes.
     let by = generally_by c.args.self.now in
     let of = is_read_by heads.Any (IsDescribedWide heads.Any) _ (λ files. files) by.file c.args.said.now c.requires.read.says describes in
     prints_fault (general_promise by) _ [] c.args.said.now.described.files c.in-Err.fault _ _ c.refuse_fault.result tt

@@ -4,7 +4,7 @@ use Rattle.cc_describe.specs.Describing.{AreToOpen, IsDescribedWide}
 use Rattle.cc_describe.specs.FirstRefusal.{file_named}
 use Rattle.cc_list.proofs.Described.{is_read_by}
 use Rattle.cc_list.proofs.Outcomes.{known}
-use Rattle.cc_run.proofs.Judging.{prints_judged, silent_may}
+use Rattle.cc_run.proofs.LogsJudged.{prints_judged, silent_may}
 use Rattle.cc_run.proofs.Reading.{prints_fault, wide_description_is}
 use Rattle.cc_run.proofs.WideClaims.{names_wide, wide_claim_refuses}
 use Rattle.cc_run.specs.Modes.CheckingGeneral.{NamesGeneral, general_checking_promise, general_judging, named_for_general}
@@ -27,8 +27,8 @@ returns-in-Ok g c = λ describes.
     (wide_in of.places, named.0) _ _ c.judge_log.result (names_wide _ (named_for_general by) c.args.said.now of named.0 named.2)
     (c.judge_log.ensures (wide_in of.places, named.0) named.1)
 
-pub returns-in-Err : goal.returns-in-Err
-returns-in-Err g c = λ describes.
+pub returns : goal.returns
+returns g c = λ describes.
     let by = general_checking_by c.args.self.now in
     let of = is_read_by heads.Any (IsDescribedWide heads.Any) _ (λ files. files) by.file c.args.said.now c.requires.read.says describes in
     prints_fault (general_checking_promise by) _ (c.args.self.now.log.now ∷ []) c.args.said.now.described.files c.in-Err.fault _ _ c.refuse_fault.result tt

@@ -29,8 +29,8 @@ returns-in-Ok g c = λ describes.
     let named = c.in-Ok.ensures.named (description_in of.places) is in
     c.be_sure.ensures by (description_in of.places) named.0 refl is named.1 (names_unclaimed _ (named_surely by) c.args.said.now.described of named.0 named.2)
 
-pub returns-in-Err : goal.returns-in-Err
-returns-in-Err g c = λ describes.
+pub returns : goal.returns
+returns g c = λ describes.
     let by = surely_by c.args.self.now in
     let of = read_bare _ by.file c.args.said.now c.requires.read.says describes in
     prints_fault (sure_promise by) _ [] c.args.said.now.described.files c.in-Err.fault _ _ c.refuse_fault.result tt

@@ -6,7 +6,7 @@ use Rattle.cc_describe.specs.declared.heads.Heads.TheVariants as heads
 use Rattle.cc_describe.specs.Describing.{AreToOpen}
 use Rattle.cc_list.specs.Tasks.{description_in}
 use Rattle.cc_run.proofs.Claims.{claim_refuses, names_unclaimed}
-use Rattle.cc_run.proofs.Judging.{prints_judged, silent_may}
+use Rattle.cc_run.proofs.LogsJudged.{prints_judged, silent_may}
 use Rattle.cc_run.proofs.Reading.{prints_fault, read_bare}
 use Rattle.cc_run.specs.Modes.CheckingSure.{NamesSure, named_to_check, sure_checking_promise, sure_judging}
 use Rattle.cc_run.specs.Modes.Surely.{RefusesClaimed}
@@ -28,8 +28,8 @@ returns-in-Ok g c = λ describes.
     (description_in of.places, named.0) _ _ c.judge_log.result (names_unclaimed _ (named_to_check by) c.args.said.now.described of named.0 named.2)
     (c.judge_log.ensures (description_in of.places, named.0) named.1)
 
-pub returns-in-Err : goal.returns-in-Err
-returns-in-Err g c = λ describes.
+pub returns : goal.returns
+returns g c = λ describes.
     let by = sure_checking_by c.args.self.now in
     let of = read_bare _ by.file c.args.said.now c.requires.read.says describes in
     prints_fault (sure_checking_promise by) _ (c.args.self.now.log.now ∷ []) c.args.said.now.described.files c.in-Err.fault _ _ c.refuse_fault.result tt

@@ -24,8 +24,8 @@ returns-in-Ok g c = λ describes.
     prints_explained by c.args.said.now.described c.args.said.now.described.sig c.in-Ok.row.laws c.in-Ok.row.key c.in-Ok.row.is_path _ _ c.explain_row.result of looked
     (c.explain_row.ensures (description_in of.places) by.key description looked)
 
-pub returns-in-Err : goal.returns-in-Err
-returns-in-Err g c = λ describes.
+pub returns : goal.returns
+returns g c = λ describes.
     let by = explaining_by c.args.self.now in
     let of = read_bare _ by.file c.args.said.now c.requires.read.says describes in
     let refused = c.in-Err.ensures.refused (description_in of.places) (description_is of.places c.args.said.now.described of.said) in

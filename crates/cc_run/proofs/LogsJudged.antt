@@ -1,28 +1,90 @@
 -- A log that is judged, from the steps of its reading and of its verdict.
-use Rattle.std.proofs.Common.{◌≡◌, refl, sym, ap, subst, ℕ, ◌<◌, ◌≤◌, false, List, [], ◌∷◌, length, Option, Some, None, Result, Ok, Err, IfSome, IfOk, inl, inr}
-use Rattle.std.specs.Prelude.{IsErrAnd}
+use Rattle.std.proofs.Common.{◌≡◌, ◌∙◌, refl, sym, ap, subst, ℕ, ◌<◌, ◌≤◌, false, List, [], ◌∷◌, length, Option, Some, None, Result, Ok, Err, IfSome, IfOk, inl, inr, option_map}
+use Rattle.std.specs.Prelude.{IfErr, IsErrAnd}
 use Rattle.cc_check.specs.declared.silent.SilentVerdict.{SilentVerdict}
 use Rattle.cc_check.specs.declared.silent.SilentVerdict.TheVariants as silent_verdicts
+use Rattle.cc_defs.specs.declared.refusal.Fault.{Fault}
+use Rattle.cc_defs.specs.declared.refusal.Fault.TheVariants as faults
 use Rattle.cc_defs.specs.declared.refusal.LimitAt.TheVariants as limits
 use Rattle.cc_defs.specs.declared.refusal.Refusal.{Refusal}
 use Rattle.cc_defs.specs.Limits.{limit_number}
 use Rattle.cc_defs.specs.Refusals.{past}
 use Rattle.cc_describe.specs.Places.{Files}
-use Rattle.cc_list.proofs.Callings.{first_all, memory_not_read, memory_not_write, read_not_write}
+use Rattle.cc_list.proofs.Callings.{called_reads, first_all, memory_not_read, memory_not_write, read_not_write}
 use Rattle.cc_list.proofs.Outcomes.{asks_no_more, files_stay, known, prints_after_read, prints_lacking, prints_refusal, prints_stopped, prints_whole}
 use Rattle.cc_list.specs.Promises.{Keeps, Promise}
 use Rattle.cc_list.specs.Stops.{Prints}
 use Rattle.cc_list.specs.Wholes.{Whole}
-use Rattle.cc_ports.specs.Contents.{Contents, Rose}
+use Rattle.cc_ports.specs.Calls.{AreReadings, Call, with_calls}
+use Rattle.cc_ports.specs.Contents.{Contents, Rose, with_rest}
 use Rattle.cc_ports.specs.Moments.{Moment}
-use Rattle.cc_run.specs.Judging.{EndsReading, Judges, Judging, MayEndJudging, NamesLog, TellsJudged, TellsVerdict, judging_promise}
+use Rattle.cc_run.specs.Judging.{EndsReading, IsLogFault, Judges, Judging, MayEndJudging, NamesLog, TellsJudged, TellsVerdict, judging_promise}
 use Rattle.cc_tell.specs.declared.status.Status.{Status}
+use Rattle.cc_tell.specs.declared.status.Status.TheVariants as statuses
 use Rattle.cc_tell.specs.declared.status.Stop.{Stop}
 use Rattle.cc_tell.specs.declared.status.Stop.TheVariants as stops
 use Rattle.cc_tell_modes.specs.SilentVerdicts.{silent_verdict_status}
-use Rattle.cc_tell.specs.Givens.{only_out}
-use Rattle.cc_tell.specs.Steps.{Step}
+use Rattle.cc_tell.specs.ErrLines.{refusal_text}
+use Rattle.cc_tell.specs.Givens.{only_err, only_out}
+use Rattle.cc_tell.specs.Steps.{IsCalm, Step}
 use Rattle.cc_words.specs.Words.{Text}
+
+-- ---- the reading of a log
+
+module _ {Verdict : Type 0} (Is : List ℕ → Verdict → Type 0) (Passes : List ℕ → Refusal → Type 0) (line : Verdict → List ℕ) (status : Verdict → Status) (log : Text) (most : ℕ) (x y : Moment) where
+  pub reads_log : (z : Moment) (r : Result Status Stop) → ((rest : List ℕ) × (y.told ≡ option_map (with_rest rest) x.told)) → y.begun ≡ x.begun →
+      ((more : List Call) × AreReadings log most more × (y.calls ≡ with_calls more x.calls)) → x.reads ≤ y.reads → x.writes ≤ y.writes → EndsReading Is Passes line status log x y z r →
+      TellsVerdict Is Passes line status log x z r
+  reads_log z r after begun calls reads writes how = record {
+    read = y;
+    rest = after.0;
+    told = after.1;
+    begun = begun;
+    reads = reads;
+    writes = writes;
+    called = called_reads log most x y calls;
+    how = how;
+  }
+
+  -- the bytes that were read are judged
+  pub judges_read : (bytes found : List ℕ) (z : Moment) (r : Result Status Stop) → bytes ≡ found → most ≡ limit_number limits.LogBytes → IfSome x.told (λ c. c.files log ≡ Some found) →
+      length found ≤ most → IsCalm x y → TellsJudged (Is bytes) (Passes bytes) line status y z r → EndsReading Is Passes line status log x y z r
+  judges_read bytes found z r same most_is there few calm judged = inl (
+    bytes,
+    subst (λ (b : List ℕ). IfSome x.told (λ c. c.files log ≡ Some b)) (sym same) there,
+    subst (λ (b : List ℕ). length b ≤ limit_number limits.LogBytes) (sym same) (subst (λ (n : ℕ). length found ≤ n) most_is few),
+    calm,
+    judged,
+  )
+
+  -- it is too long
+  pub is_long : (refusal : Refusal) (z : Moment) (r : Result Status Stop) → most ≡ limit_number limits.LogBytes → refusal ≡ past limits.LogBytes →
+      IfSome x.told (λ c. (bytes : List ℕ) × (c.files log ≡ Some bytes) × (most < length bytes)) → IsCalm x y → Step (only_err (refusal_text refusal [])) y z r →
+      IfOk r (λ ended. ended ≡ statuses.Refused) → EndsReading Is Passes line status log x y z r
+  is_long refusal z r most_is past_is long calm step ended = inr (inl (
+    subst (λ (n : ℕ). IfSome x.told (λ c. (bytes : List ℕ) × (c.files log ≡ Some bytes) × (n < length bytes))) most_is long,
+    calm,
+    subst (λ (f : Refusal). Step (only_err (refusal_text f [])) y z r) past_is step,
+    ended,
+  ))
+
+-- three facts of a result are one
+pub all_three : {X E : Type 0} {P Q R S : X → Type 0} (r : Result X E) → ((x : X) → P x → Q x → R x → S x) → IfOk r P → IfOk r Q → IfOk r R → IfOk r S
+all_three (Ok x) f p q s = f x p q s
+all_three (Err e) f p q s = tt
+
+-- faults of a judge are those of a log
+pub log_fault : {X : Type 0} (P : Fault → Type 0) (r : Result X Fault) → IfErr r P → IfErr r (IsLogFault (λ refusal. P (faults.Refused refusal)))
+log_fault P (Ok x) is = tt
+log_fault P (Err (faults.Refused refusal)) is = is
+log_fault P (Err faults.OutOfMemory) is = tt
+
+pub log_fault_as : {X Y : Type 0} (P : Fault → Type 0) (r : Result X Fault) (s : Result Y Fault) (fault : Fault) → r ≡ Err fault → IsErrAnd s (λ e. e ≡ fault) → IfErr r P →
+    IfErr s (IsLogFault (λ refusal. P (faults.Refused refusal)))
+log_fault_as P r (Ok y) fault is same so = absurd same
+log_fault_as {X = X} P r (Err e) fault is same so =
+    let made : Result X Fault = Err e in
+    log_fault P made (subst (λ (f : Result X Fault). IfErr f P) (is ∙ ap (λ (g : Fault). Err g) (sym same)) so)
 
 -- a verdict on silent sections ends a run as it may
 pub silent_may : (verdict : SilentVerdict) → MayEndJudging (silent_verdict_status verdict)
