@@ -1,6 +1,5 @@
 use Rattle.cc_check.specs.Silent.{IsSilentFault}
 use Rattle.cc_silent.specs.GeneralLogs.{general_subject}
-use Rattle.cc_general.specs.GeneralLogs.{as_silent}
 use Rattle.std.proofs.Common.{subst, sym}
 use Rattle.cc_check.specs.declared.silent.SilentVerdict.{SilentVerdict}
 use Rattle.cc_run.proofs.LogsJudged.{log_fault_as}
