@@ -5,7 +5,6 @@ pub mod Holding
 pub mod Joining
 pub mod Lessening
 pub mod Opened
-pub mod Positions
 pub mod PartsTold
 pub mod Reaching
 pub mod Refusing
@@ -15,13 +14,9 @@ pub mod Shortness
 pub mod Steps
 pub mod Told
 pub mod Within
-pub mod AcceptedEmpty
-pub mod AcceptedLines
-pub mod AcceptedSections
 pub mod SpentBudgets
 pub mod AcceptedRuns
 pub mod JoinedRuns
-pub mod LinesRead
 pub mod TextSizes
 pub mod SameRows
 pub mod HorizonsAlike
