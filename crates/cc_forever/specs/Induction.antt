@@ -1,8 +1,9 @@
 -- What holds at every horizon, by induction over so many steps (Sheeran, Singh and Stålmarck, 2000).
-use Rattle.std.specs.Prelude.{◌≡◌, ◌≤◌, ◌<◌, ◌+◌, ℕ, Bool, true, false, List, [], ◌∷◌, ◌++◌, Option, Some, None, map, filter, upto, option_map}
+use Rattle.std.specs.Prelude.{◌≤◌, ◌<◌, ◌+◌, ℕ, Bool, true, false, List, [], ◌∷◌, ◌++◌, Option, Some, None, map, filter, option_map, if◌then◌else◌}
 use Rattle.cc_defs.specs.declared.signature.At.{At}
 use Rattle.cc_defs.specs.declared.signature.At.TheVariants.{Number, Last}
 use Rattle.cc_defs.specs.Conditions.{IsSignatureOfDescription}
+use Rattle.cc_defs.specs.Declarations.{upto}
 use Rattle.cc_defs.specs.Description.{Description}
 use Rattle.cc_defs.specs.GroundLaws.{PlainGroundQuery, StandsForQuery}
 use Rattle.cc_defs.specs.Resolved.{Condition, Formula, Both, Falsehood, Implies, Not, Query}

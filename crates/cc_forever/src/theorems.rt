@@ -2,7 +2,7 @@
 ghost use Rattle.cc_forever.specs.Induction.{InductionHolds};
 
 use cc_arena::theorems::terms_mean_formulas;
-use cc_theory::theorems::paths_have_parts;
+use cc_theory::theorems::{paths_have_parts, terms_rest_on_their_constants};
 
 /// Induction: where so many horizons from the least one on have no history, and no path of so many transitions whose earlier states
 /// are none that the query looks for ends in one that it does, then no horizon has a history.
@@ -10,5 +10,6 @@ pub fn induction_holds()
     ensures { InductionHolds }
 {
     terms_mean_formulas();
+    terms_rest_on_their_constants();
     paths_have_parts();
 }

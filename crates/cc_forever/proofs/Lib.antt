@@ -1,0 +1,3 @@
+mod Inducing
+mod Kept
+mod Sought
