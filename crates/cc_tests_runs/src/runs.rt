@@ -1,6 +1,8 @@
 //! What books of cases do not show: laws, other desks, desks that fail, long files, many nodes, and calls on values that are made
 //! here. What is expected is taken from the description of the language.
 ghost use Rattle.std.specs.Prelude.{◌<◌, IfOk};
+ghost use Rattle.cc_describe.specs.declared.heads.Heads.TheVariants as heads;
+ghost use Rattle.cc_describe.specs.Describing.{AsksFormulas, HasForms, SaysAll};
 ghost use Rattle.cc_sorts.specs.Tables.{IsSignatureFor};
 
 use bumpalo::Bump;
@@ -19,7 +21,7 @@ use cc_tell::end_run;
 use std::alloc::Global;
 use std::test::Fail;
 
-const TWO_FLUENTS: &str = ":- constants p, q :: simpleFluent. :- query maxstep :: 0.";
+pub(crate) const TWO_FLUENTS: &str = ":- constants p, q :: simpleFluent. :- query maxstep :: 0.";
 
 const CLASH: &str = ":- constants p :: simpleFluent. caused p. caused -p. :- query maxstep :: 0.";
 
@@ -361,8 +363,11 @@ fn bytes_have_their_limits(rt: HostRuntime) -> Result<(), Fail> {
 }
 
 /// The description of a text; none where there is none.
-fn described_text(alloc: Global, text: &str) -> Result<Described, DescribeStop>
-    ensures { IfOk result (λ described. IsSignatureFor described.table described.sig) }
+pub(crate) fn described_text(alloc: Global, text: &str) -> Result<Described, DescribeStop>
+    ensures signature { IfOk result (λ described. IsSignatureFor described.table described.sig) }
+    ensures says { IfOk result (SaysAll heads.Definite) }
+    ensures forms { IfOk result HasForms }
+    ensures formulas { IfOk result AsksFormulas }
 {
     let Ok(files) = one_file(alloc, text) else {
         return Err(DescribeStop::OutOfMemory);
