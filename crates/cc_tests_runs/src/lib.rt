@@ -5,6 +5,8 @@
 #[cfg(test)]
 mod calls;
 #[cfg(test)]
+mod engines;
+#[cfg(test)]
 mod make;
 #[cfg(test)]
 mod print;

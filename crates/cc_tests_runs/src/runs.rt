@@ -73,7 +73,7 @@ fn two_files(
     Ok(Files::of(files))
 }
 
-fn one_file(alloc: Global, text: &str) -> Result<Files, OutOfMemory> {
+pub(crate) fn one_file(alloc: Global, text: &str) -> Result<Files, OutOfMemory> {
     let mut files = Vec::new(alloc);
     files.push(padded(alloc, "f.cc", text, 0)?)?;
     Ok(Files::of(files))
