@@ -1,3 +1,4 @@
 mod Inducing
 mod Kept
 mod Sought
+mod Stepping

@@ -1,1 +1,2 @@
 pub mod Induction
+pub mod Steps
