@@ -1,3 +1,4 @@
+mod Fitting
 mod Inducing
 mod Kept
 mod Sought

@@ -4,7 +4,6 @@ ghost use Rattle.std.specs.Option.{option_map};
 ghost use Rattle.cc_arena.specs.GroundViews.{plain_ground_condition, plain_ground_query};
 ghost use Rattle.cc_defs.specs.Description.{Description};
 ghost use Rattle.cc_defs.specs.GroundLaws.{StandsForQuery};
-ghost use Rattle.cc_defs.specs.Limits.{most_steps};
 ghost use Rattle.cc_defs.specs.Resolved.{Query};
 ghost use Rattle.cc_defs.specs.Signatures.{Signature};
 ghost use Rattle.cc_form.specs.Queries.{IsQueryAt};
@@ -213,8 +212,6 @@ impl<'a> Induction<'a> {
 
     /// The query over so many steps.
     pub fn step(&self, alloc: Global, count: u32) -> Result<GroundQuery<'a>, OutOfMemory>
-        requires least { 1 ≤ count }
-        requires most { count ≤ most_steps }
         ensures stands { (d : Description) (q : Query) → StandsForQuery self.now d q →
             IfOk result (λ made. StandsForQuery (plain_ground_query made) d (step_query q count)) }
         ensures asked { (signature : Signature) → IsQueryAt signature self.now.lo self.now →
