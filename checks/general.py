@@ -7,7 +7,7 @@ import itertools
 import math
 import re
 
-from sections import NUMBER, Clauses, Theory, condition_holds, judge, read_line, step_at
+from sections import NUMBER, Clauses, Theory, condition_holds, judge, read_line, read_silent_line, refusal_in, split_silent_log, step_at
 
 HEADER = b"ccalc general 1\n"
 HEADING = re.compile(rb"u (" + NUMBER + rb"):((?:" + NUMBER + rb"(?:," + NUMBER + rb")*)?)\n\Z")
@@ -108,24 +108,12 @@ def read_general_line(text):
     match = HEADING.match(text)
     if match:
         return "row", int(match.group(1)), [int(index) for index in match.group(2).split(b",") if index]
-    line = read_line(text)
-    return ("misplaced",) if line and line[0] in ("heading", "block") else line
+    return read_silent_line(text)
 
 
 def split_general_log(log):
     """The sections of a log, each with its heading, the number of its line and its lines; or the first wrong line with its cause."""
-    texts = re.findall(rb"[^\n]*\n|[^\n]+", log)
-    if not texts or texts[0] != HEADER:
-        return None, (1, "header")
-    sections = []
-    for number, line in enumerate(map(read_general_line, texts[1:]), 2):
-        if line and line[0] == "row":
-            sections.append((line[1:], number, []))
-        elif sections:
-            sections[-1][2].append(line)
-        else:
-            return None, (number, "section" if line else "form")
-    return sections, None
+    return split_silent_log(log, HEADER, "row", read_general_line)
 
 
 def is_right_heading(description, query, horizon, indexes):
@@ -147,13 +135,9 @@ def general_verdict_of(description, query, log):
         if not is_right_heading(description, query, horizon, indexes):
             return "refused", line, "section"
         theory = WideTheory(description, horizon)
-        found = judge(rivals(theory, theory.row_of(indexes)), ("u", horizon, line, lines)).split()
-        if found[0] == "wrong":
-            return "refused", int(found[1]), " ".join(found[2:])
-        if found[0] == "trailed" and found[1] == "empty":
-            return "refused", int(found[2]) + 1, found[3]
-        if found[1] != "empty":
-            return "refused", int(found[2] if found[0] == "trailed" else found[5]), "not refuted"
+        refusal = refusal_in(judge(rivals(theory, theory.row_of(indexes)), ("u", horizon, line, lines)))
+        if refusal:
+            return "refused", *refusal
     return "accepted", len(sections)
 
 

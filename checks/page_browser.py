@@ -106,7 +106,7 @@ class Browser(unittest.TestCase):
     def setUpClass(cls) -> None:
         cls.made = tempfile.TemporaryDirectory()
         root = pathlib.Path(cls.made.name)
-        for name in ("lamp.cc", "lights.cc", "lights-mended.cc", "toss.cc"):
+        for name in ("lamp.cc", "lights.cc", "lights-mended.cc", "toss.cc", "airlock.cc", "lift.cc"):
             shutil.copy(HOME / "examples" / name, root)
         (root / "<b onclick=x>.cc").write_text(page.LAMP)
         (root / "mine.cc").write_text(page.LAMP)
@@ -343,6 +343,45 @@ class Lesson(Browser):
         self.click("true (example 2)")
         self.sees("#history", "Example 2, 1 step. A click on a value asks why. Step Values 0 nothing is true Step on does toss 1 heads")
 
+    def test_claims_at_every_horizon(self) -> None:
+        self.open("airlock.cc")
+        self.click("Ever?: apart")
+        self.sees("#verdict", "claim holds at every horizon from 0 on horizon 0: claim holds; induction over 1 steps: holds")
+        self.assertEqual(self.text("#history"), "")
+        self.click("Judge its log: apart")
+        self.sees("#judged", "log accepted: every horizon from 0 on, by induction over 1 steps")
+        self.sees("#judgement", "forevercheck mode judged it")
+        self.open("lamp.cc")
+        self.write(page.MATCH)
+        self.click("Ever?: dark")
+        self.sees("#verdict", "claim fails")
+        self.sees("#history", "Counterexample, 1 step.")
+        self.sees("#history tr.fails", "1 The claim fails here. burnt lit")
+
+    def test_what_an_induction_leaves_open(self) -> None:
+        self.open("lift.cc")
+        self.click("Ever?: safe")
+        self.sees("#verdict", "not settled horizon 0: claim holds; induction over 1 steps: fails; horizon 1: claim holds;")
+        self.sees("#verdict", "This may begin in a state that is never reached")
+        self.sees("#history", "What the induction leaves open, 4 steps.")
+        self.sees("#history tr.fails", "4 The claim fails here. moving open bolted")
+        self.wait(lambda: len(self.there("#drawing g.node.now")) == 5, "the picture with all five states")
+        self.tap("#history .value[data-constant=moving]")
+        self.sees("#cause", "4: moving=true is caused by line 4 start causes moving.")
+        self.click("Judge its log: safe")
+        self.sees("#judged", "there is no log to judge: not settled")
+
+    def test_histories_at_any_horizon(self) -> None:
+        self.open("lamp.cc")
+        self.click("Ever?: 1")
+        self.sees("#verdict", "history found horizon 0: no history; induction over 1 steps: fails")
+        self.sees("#history", "History 1, 1 step. A click on a value asks why. Step Values 0 nothing is true Step on does flip 1 on Step on")
+        self.wait(lambda: len(self.there("#drawing g.node.now")) == 2, "the picture with both states")
+        self.write(page.ASH)
+        self.click("Ever?: new")
+        self.sees("#verdict", "no history at any horizon from 0 on")
+        self.assertEqual(self.text("#history"), "")
+
     def test_claim_fails_at_the_step_that_it_names(self) -> None:
         self.open("lamp.cc")
         self.write(page.MATCH.replace("maxstep :: 1;", "maxstep :: 2;").replace("claim :: maxstep", "claim :: 1"))
@@ -363,6 +402,21 @@ class Lesson(Browser):
         self.wait(lambda: len(self.there("#drawing g.node")) == 2, "two states")
         edges = sorted(" ".join(one.text.split()) for one in self.there("#drawing g.edge"))
         self.assertEqual(edges, ["nothing toss", "nothing toss", "toss", "toss"])
+
+    def test_picture_that_comes_late_does_not_replace_a_later_one(self) -> None:
+        drawn = sys.modules["page.jobs"].work_on
+
+        def slow(work: Any, words: List[str], *rest: Any) -> Any:
+            if words[-1].endswith("histories"):
+                time.sleep(3)
+            yield from drawn(work, words, *rest)
+
+        with mock.patch("page.jobs.work_on", slow):
+            self.ask("toss.cc", "transitions", "complete, 6 listed")
+            self.click("Transitions")
+            self.wait(lambda: len(self.there("#drawing g.node")) == 2, "two states")
+            time.sleep(5)
+            self.assertEqual(len(self.there("#drawing g.node")), 2)
 
     def test_picture_is_made_larger_and_moved(self) -> None:
         self.ask("lights.cc", "safe", "claim fails")
@@ -385,7 +439,7 @@ class Lesson(Browser):
         self.open("mine.cc")
         self.write("% Changed.\n" + page.LAMP)
         self.click("Save")
-        self.sees("#saved", "saved")
+        self.wait(lambda: self.text("#saved") == "saved", "saved")
         path = pathlib.Path(self.made.name) / "mine.cc"
         self.assertEqual(path.read_text(), "% Changed.\n" + page.LAMP)
         path.write_text(page.LAMP)
@@ -397,7 +451,7 @@ class Lesson(Browser):
 
     def test_queries_and_laws_of_an_included_file(self) -> None:
         self.open("asked.cc")
-        self.sees("#queries", "1 Ask Certain? Judge its log laws.cc, line 5")
+        self.sees("#queries", "1 Ask Certain? Ever? Judge its log laws.cc, line 5")
         self.click("Ask: 1")
         self.sees("#verdict", "complete")
         self.tap("#history .value[data-constant=on]")
@@ -499,6 +553,7 @@ class Seen(Browser):
         self.press(Keys.ENTER)
         self.sees("#verdict", "claim fails")
         self.wait(lambda: self.there("#drawing g.node.now"), "the picture")
+        self.reach("Ever?: safe")
         self.reach("Judge its log: safe")
         self.reach("number")
         for words in ("key", "Find", "Step on", "turn(north), why?"):
@@ -592,6 +647,10 @@ class Seen(Browser):
             self.sees("#of", "of 6")
             self.click("All", "#walker")
             self.assertEqual(self.driver.execute_script(WIDER), 0)
+            self.open("lift.cc")
+            self.click("Ever?: safe")
+            self.sees("#history", "What the induction leaves open")
+            self.assertEqual(self.driver.execute_script(WIDER), 0)
         finally:
             self.smaller()
 
@@ -635,11 +694,11 @@ class Seen(Browser):
 class Heavy(Browser):
     """Runs that take too much, and texts that are too long, leave the page usable."""
 
-    def begin(self, text: str) -> None:
+    def begin(self, text: str, button: str = "Ask") -> None:
         self.open("lamp.cc", self.strangely)
         self.write(text)
         self.wait(lambda: self.there("#queries .strong"), "the query")
-        self.click("Ask: without a label")
+        self.click(f"{button}: without a label")
 
     def is_over(self) -> bool:
         return bool(page.waits_for(lambda: not self.strangely.runner.under_way and not self.served.runner.under_way))
@@ -664,6 +723,13 @@ class Heavy(Browser):
         number.clear()
         number.send_keys("5", Keys.ENTER, Keys.TAB)
         self.sees("#history", "0 at=5")
+        self.assertTrue(self.is_over())
+
+    def test_horizons_that_were_told_before_a_stop_are_kept(self) -> None:
+        self.begin("% open\n:- query maxstep :: 0.\n", "Ever?")
+        self.sees("#progress", "2.")
+        self.click("Stop")
+        self.sees("#verdict", "stopped horizon 0: claim holds; induction over 1 steps: fails")
         self.assertTrue(self.is_over())
 
     def test_run_ends_with_its_page(self) -> None:

@@ -6,9 +6,10 @@ comparisons where there are numbers, and one or two queries, some with a claim; 
 histories after a key, a version of the log, or, in one case in sixteen, for the clause list of a horizon. About one case in eight has
 words, a query or a key that is refused. About one in ten asks for a made description, or nearly does. The same number of cases and the
 same seed give the same book. With --sure all cases are in sure mode, most with a log, a third with a small budget. With
---general they are in general mode, and most heads are formulas.
+--general they are in general mode, and most heads are formulas. With --forever they are in forever mode: in two of three a counter goes
+over a few numbers by ways that are drawn, so that some are never reached and inductions hold over one step, over more, or over none.
 
-Usage: checks/random_runs.py [--sure|--general] CASES SEED      (the book goes to standard output)
+Usage: checks/random_runs.py [--sure|--general|--forever] CASES SEED      (the book goes to standard output)
 """
 import random
 import re
@@ -194,6 +195,82 @@ class WideDescription(Description):
         return text.replace("N=", "N\\=", 1) if text.startswith("caused N=") and chance(0.5) else text
 
 
+class Ways:
+    """A counter whose actions lead from numbers to numbers as they are drawn, or each number to the next one by itself, in every third
+    case beside a switch; and a query on it. Often the numbers from `apart` on are not reached from those below it."""
+
+    def __init__(self):
+        self.last = random.randint(2, 6)
+        self.is_driven = chance(0.7)
+        self.apart = random.randint(1, 2) if chance(0.6) else self.last + 1
+        self.actions = ["go", "turn"][: random.choice([1, 1, 1, 2])]
+        self.switch = chance(0.33)
+        kind = "simpleFluent" if self.is_driven else random.choice(["inertialFluent", "inertialFluent", "simpleFluent"])
+        switch = "; on :: inertialFluent" if self.switch else ""
+        self.lines = [
+            f":- sorts n. :- objects 0..{self.last} :: n. :- variables X :: n.",
+            f":- constants c :: {kind}(n){switch}; {', '.join(self.actions)} :: exogenousAction.",
+        ]
+        self.lines += self.drift() if self.is_driven else self.ways(kind)
+        self.lines += ["noconcurrency."] if len(self.actions) > 1 and chance(0.8) else []
+        self.lines += [random.choice(["go causes on if -on.", "go causes -on.", f"constraint on ->> c<{self.last}."])] if self.switch else []
+        self.lines += self.riddle() if chance(0.25) else []
+
+    def riddle(self):
+        """Three actions that are done together in one way or in none, which is not seen without a search; in some only near the last number."""
+        clauses = [f"{x}x ++ {y}y ++ {z}z" for x in ("", "-") for y in ("", "-") for z in ("", "-")]
+        random.shuffle(clauses)
+        where = random.choice(["", f"c<{self.last - 1} ++ "])
+        kept = clauses[: random.choice([7, 8])]
+        return [":- constants x, y, z :: exogenousAction."] + [f"always {where}{clause}." for clause in kept]
+
+    def drift(self):
+        """Where each number leads by itself, most to one number, some to two or to none."""
+        lines = []
+        for number in range(self.last + 1):
+            ends = [self.end_from(number) for _ in range(random.choice([0, 1, 1, 1, 1, 1, 2]))]
+            lines += [f"caused c={end}{f' if c={end}' if len(set(ends)) > 1 else ''} after c={number}." for end in sorted(set(ends))]
+        return lines
+
+    def ways(self, kind):
+        lines = [self.way(action, number) for action in self.actions for number in range(self.last + 1) if chance(0.8)]
+        return lines + (["caused c=X after c=X & -go."] if kind == "simpleFluent" and chance(0.5) else [])
+
+    def way(self, action, number):
+        """Where an action leads from a number: one way, or, in one case in eight, more."""
+        leads = " may cause " if chance(0.125) else " causes "
+        return f"{action}{leads}c={self.end_from(number)} if c={number}."
+
+    def end_from(self, number):
+        if number < self.apart:
+            return random.randint(0, min(self.apart, self.last + 1) - 1)
+        return min(number + 1, self.last) if chance(0.85) else random.randint(0, self.last)
+
+    def sought(self):
+        return self.last if chance(0.65) else random.randint(0, self.last)
+
+    def formula(self):
+        number = self.sought()
+        texts = [f"c={number}", *[f"c\\={number}"] * 4, f"c<{number}", f"c>={number}", f"c+1\\={number}"]
+        if self.switch:
+            texts += ["on", "-on", f"(on ->> c\\={number})", f"(on ++ c<{number})"]
+        return random.choice(texts)
+
+    def query(self):
+        lo = random.choice([0, 0, 0, 1, 2])
+        hi = lo + random.choice([0, 1, 1, 2, 3, 4, 6, 8])
+        items = [f"label :: first; maxstep :: {lo}..{hi}" if hi > lo or chance(0.5) else f"label :: first; maxstep :: {lo}"]
+        items += [f"0: c={0 if chance(0.6) else random.randint(0, self.last)}"] if chance(0.85) else []
+        items += [f"{random.randint(0, lo)}: {self.formula()}"] if chance(0.2) else []
+        is_claim = chance(0.6)
+        asks = (lambda: f"c={self.sought()}") if not is_claim and chance(0.6) else self.formula
+        items += [f"maxstep: {asks()}" for _ in range(random.choice([0, 0, 0, 1, 2] if is_claim else [1, 1, 1, 2, 0]))]
+        items += [f"claim :: {'maxstep' if chance(0.9) else random.randint(0, lo)}: {self.formula()}"] if is_claim else []
+        items += [f"{lo + 1}: c=0"] if chance(0.02) else []
+        random.shuffle(items)
+        return ":- query " + "; ".join(items) + "."
+
+
 def made_words():
     """Words that ask for a made description, or have something that does not go with it."""
     options = [["--mode", "make"]] if chance(0.95) else []
@@ -205,12 +282,13 @@ def made_words():
 
 
 def words_in(mode):
-    """Words that ask for sure or general mode, or have something that does not go with it."""
+    """Words that ask for sure, general or forever mode, or have something that does not go with it."""
     options = [["--mode", mode]]
     options += [["--budget", random.choice(["1", "1", "2", "3", "5", "200000"])]] if chance(0.33) else []
     options += [["--log", "l"]] if chance(0.9) else []
     options += [["--count", str(random.randint(1, 4))]] if mode == "general" and chance(0.2) else []
-    options += [random.choice([["--size", "1"], ["--after", "0:0"], ["--form", "1"], ["--key", "0:0"], ["--to", "m"]])] if chance(0.02) else []
+    others = [["--size", "1"], ["--after", "0:0"], ["--form", "1"], ["--key", "0:0"], ["--to", "m"]] + ([["--count", "1"]] if mode != "general" else [])
+    options += [random.choice(others)] if chance(0.02) else []
     random.shuffle(options)
     return sum(options, [])
 
@@ -228,6 +306,19 @@ def case_in(mode, number):
         queries = [re.sub("; claim :: [^;]*", "", re.sub("claim :: [^;]*; ", "", query)).replace(".;", ".") for query in queries]
         queries = [query if query.endswith(".") else query + "." for query in queries]
     return text_of(number, words + ["f.cc"], description.lines + queries)
+
+
+def case_of_ever(number):
+    """A description with a query, and words of forever mode; in one case of three of any small description, over a longer range."""
+    words = words_in("forever")
+    if chance(0.67):
+        ways = Ways()
+        return text_of(number, words + ["f.cc"], ways.lines + [ways.query()])
+    description = Description()
+    query, lo, hi = description.query("first", random.choice([0, 1, 1, 2]))
+    span = re.compile(r"maxstep :: [0-9]+(\.\.[0-9]+)?")
+    query = span.sub(f"maxstep :: {lo}..{hi + random.choice([0, 1, 2, 4])}", query)
+    return text_of(number, words + ["f.cc"], description.lines + [query])
 
 
 def text_of(number, words, lines):
@@ -265,14 +356,17 @@ def case(number):
     return text_of(number, words, description.lines)
 
 
+MODES = {"--sure": lambda number: case_in("sure", number), "--general": lambda number: case_in("general", number), "--forever": case_of_ever}
+
+
 def main():
-    mode = sys.argv[1][2:] if sys.argv[1:2] in (["--sure"], ["--general"]) else None
-    numbers = sys.argv[1 + (mode is not None) :]
+    option = sys.argv[1] if sys.argv[1:2] and sys.argv[1] in MODES else None
+    numbers = sys.argv[1 + (option is not None) :]
     if len(numbers) != 2:
-        sys.exit("usage: checks/random_runs.py [--sure|--general] CASES SEED")
+        sys.exit("usage: checks/random_runs.py [--sure|--general|--forever] CASES SEED")
     random.seed(int(numbers[1]))
     for number in range(int(numbers[0])):
-        sys.stdout.write(case_in(mode, number) if mode else case(number))
+        sys.stdout.write(MODES.get(option, case)(number))
 
 
 if __name__ == "__main__":

@@ -2,9 +2,10 @@
 """A plain second reading of a run: Out, Err and the code, by brute force from the definition of a model.
 
 Reads books of runs, as cc_rows does, and prints for each case the lines of Out and Err and the code. Of logs only the one that convert
-mode writes is foretold, of sure mode's which headings it has, and no budget is taken to be spent. Words are those of the plain form. Nothing here is meant to be fast: a few
-constants and horizons, made descriptions of at most four locks, exports of small clause lists, all models of at most 20 variables. General
-mode is read by general.py; the usage line does not name it.
+mode writes is foretold, of the logs of sure and forever mode which headings they have, and no budget is taken to be spent. Words are those
+of the plain form. Nothing here is meant to be fast: a few constants and horizons, made descriptions of at most four locks, exports of small
+clause lists, all models of at most 20 variables. General
+mode is read by general.py, and forever mode by forever.py.
 
 Usage: checks/runs.py BOOK..
 """
@@ -15,12 +16,13 @@ from reference import (
     Refused, check_asked_limits, check_ground_limits, check_steps, described, first_files, is_boolean_constant, place_text,
     run_deep, show_books,
 )
+import forever
 import general
 from cnf import CnfList, Fault, dimacs, model_text, models, read_cnf
-from sections import Theory, clause_list, converted, is_history, is_path, judge, paths, split_log, split_sure_log, version_of
+from sections import Theory, clause_list, converted, is_history, is_path, judge, paths, refusal_in, split_log, split_sure_log, version_of
 
 USAGE = (
-    "usage: ccalc [--mode list|check|make|convert|why|export|models|modelscheck|sure|surecheck|general|generalcheck] [--query LABEL] [--count N] [--budget B] [--after KEY] "
+    "usage: ccalc [--mode list|check|make|convert|why|export|models|modelscheck|sure|surecheck|general|generalcheck|forever|forevercheck] [--query LABEL] [--count N] [--budget B] [--after KEY] "
     "[--log NAME] [--form 1|2] [--to NAME] [--key KEY] [--horizon M] [--size N] [FILE]"
 )
 OPTIONS = (
@@ -40,6 +42,8 @@ TAKEN = {
     "surecheck": "--query --log!",
     "general": "--query --count --budget --log",
     "generalcheck": "--query --log!",
+    "forever": "--query --budget --log",
+    "forevercheck": "--query --log!",
 }
 WITHOUT_CLAIM = ("sure", "surecheck", "general", "generalcheck")
 NAMES = {1: "Words", 15: "NoQuery", 18: "Key"}
@@ -234,6 +238,35 @@ def impossible_atoms(description, query):
     return [(theory.horizon, place, theory.domains[position[1]].index(value)) for place, position, value in impossible]
 
 
+def lines_of_row(description, horizon, indexes):
+    theory = Theory(description, horizon)
+    return history_lines(theory, theory.row_of(indexes))
+
+
+def lasting(description, query, spent=None):
+    """What forever mode prints; where a search was spent, up to it: ("h", M) for that of a horizon, ("i", K) for that of a step."""
+    moves = forever.Moves(description)
+    first, lo, out, count, example = forever.first_horizon(moves, query), query.range.lo, [], 0, None
+    for count, horizon in enumerate(range(lo, min(query.range.hi, lo + forever.MOST - 1) + 1), 1):
+        if spent == ("h", horizon):
+            return out + ["budget spent"], 3
+        if horizon == first:
+            found = lines_of_row(description, horizon, forever.least(moves, query, horizon))
+            if query.claim:
+                return out + [f"horizon {horizon}: counterexample"] + found + ["claim fails"], 1
+            return out + [f"horizon {horizon}: history 1"] + found + ["history found"], 0
+        out.append(f"horizon {horizon}: " + ("claim holds" if query.claim else "no history"))
+        if spent == ("i", count):
+            return out + ["budget spent"], 3
+        example = forever.least(moves, forever.step_query(query, count), count)
+        if example is None:
+            assert first is None, f"the induction over {count} steps holds, and horizon {first} has a history"
+            every = ("claim holds at every horizon from {}", 0) if query.claim else ("no history at any horizon from {}", 1)
+            return out + [f"induction over {count} steps: holds", every[0].format(lo) + " on"], every[1]
+        out.append(f"induction over {count} steps: fails")
+    return out + [f"induction over {count} steps: example"] + lines_of_row(description, count, example) + ["not settled"], 3
+
+
 def claiming(description, query):
     out, any_met = [], False
     for horizon in range(query.range.lo, query.range.hi + 1):
@@ -405,13 +438,9 @@ def sure_verdict_of(description, query, log):
         if sum(size * size for size in sizes) > PAIRS:
             raise Large
         made = with_atom(clause_list(description, query, horizon, False, None), position, value)
-        found = judge(made, ("a", horizon, line, lines)).split()
-        if found[0] == "wrong":
-            return "refused", int(found[1]), " ".join(found[2:])
-        if found[0] == "trailed" and found[1] == "empty":
-            return "refused", int(found[2]) + 1, found[3]
-        if found[1] != "empty":
-            return "refused", int(found[2] if found[0] == "trailed" else found[5]), "not refuted"
+        refusal = refusal_in(judge(made, ("a", horizon, line, lines)))
+        if refusal:
+            return "refused", *refusal
     return "accepted", len(sections)
 
 
@@ -523,6 +552,11 @@ def answer(words, files):
             out, code = checking(general.general_verdict_of(description, query, file_named(asked.log, files)), "histories {1}")
         elif asked.mode == "surecheck":
             out, code = checking(sure_verdict_of(description, query, file_named(asked.log, files)), "impossible {1}")
+        elif asked.mode == "forever":
+            out, code = lasting(description, query)
+        elif asked.mode == "forevercheck":
+            verdict = forever.verdict_of(query, file_named(asked.log, files), forever.list_under(description, query))
+            out, code = checking(verdict, "every horizon from {1} on, by induction over {2} steps")
         elif query.claim:
             out, code = claiming(description, query)
         else:
@@ -545,7 +579,7 @@ def searched(words, files):
 
 
 def asked_in(mode, words, files):
-    """What the words ask in sure or general mode: the description, the query and the budget; none where it is refused."""
+    """What the words ask in this mode: the description, the query and the budget; none where it is refused, or another mode is asked."""
     try:
         asked = Words(words)
         return (*named(asked, files)[:2], asked.budget) if asked.mode == mode else None
@@ -618,7 +652,7 @@ def run_lines(files):
     found = desk_files(files)
     try:
         out, err, code, log = answer(words_of(found), found)
-    except (Large, general.Large):
+    except (Large, general.Large, forever.Large):
         return NOT_READ
     shown = [f"out: {line}" for line in out] + [f"err: {line}" for line in err]
     if log is not None:

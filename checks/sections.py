@@ -398,13 +398,16 @@ ATOM = re.compile(rb"a (" + NUMBER + rb") (" + NUMBER + rb") (" + NUMBER + rb")\
 SURE_HEADER = b"ccalc sure 1\n"
 
 
-def read_sure_line(text):
-    """What a line of a log of impossible atoms says; headings of a horizon and blocks have no place there."""
-    match = ATOM.match(text)
-    if match:
-        return "atom", *[int(number) for number in match.groups()]
+def read_silent_line(text):
+    """What a line of a log whose sections tell no row says that is none of its headings; other headings and blocks have no place there."""
     line = read_line(text)
     return ("misplaced",) if line and line[0] in ("heading", "block") else line
+
+
+def read_sure_line(text):
+    """What a line of a log of impossible atoms says."""
+    match = ATOM.match(text)
+    return ("atom", *[int(number) for number in match.groups()]) if match else read_silent_line(text)
 
 
 def read_line(text):
@@ -508,20 +511,26 @@ def split_log(log):
     return sections, None
 
 
-def split_sure_log(log):
-    """The sections of a log of impossible atoms, each with its lines up to the next heading, or the first wrong line with its cause."""
+def split_silent_log(log, header, heading, read):
+    """The sections of a log that tell no row, each with its lines up to the next heading, or the first wrong line with its cause; `read`
+    says what a line is, and a heading by this word."""
     texts = re.findall(rb"[^\n]*\n|[^\n]+", log)
-    if not texts or texts[0] != SURE_HEADER:
+    if not texts or texts[0] != header:
         return None, (1, "header")
     sections = []
-    for number, line in enumerate(map(read_sure_line, texts[1:]), 2):
-        if line and line[0] == "atom":
+    for number, line in enumerate(map(read, texts[1:]), 2):
+        if line and line[0] == heading:
             sections.append((line[1:], number, []))
         elif sections:
             sections[-1][2].append(line)
         else:
             return None, (number, "section" if line else "form")
     return sections, None
+
+
+def split_sure_log(log):
+    """The sections of a log of impossible atoms."""
+    return split_silent_log(log, SURE_HEADER, "atom", read_sure_line)
 
 
 def numbers(text):
@@ -642,6 +651,19 @@ def judge(made, section):
         clauses.append(frozenset(literals))
         refuted = not literals
     return f"wrong {number + 1} section"
+
+
+def refusal_in(found):
+    """The first wrong line of a section that tells no row, and its cause, by what its lines are found to be; None where it is right and
+    ends with `empty`."""
+    words = found.split()
+    if words[0] == "wrong":
+        return int(words[1]), " ".join(words[2:])
+    if words[0] == "trailed" and words[1] == "empty":
+        return int(words[2]) + 1, words[3]
+    if words[1] != "empty":
+        return int(words[2] if words[0] == "trailed" else words[5]), "not refuted"
+    return None
 
 
 def by_itself(found):

@@ -14,9 +14,9 @@ _ccalc_options() { # the options that go with a mode
         export) echo --query --horizon ;;
         models) echo --count --budget --log --form ;;
         modelscheck) echo --log ;;
-        sure) echo --query --budget --log ;;
+        sure | forever) echo --query --budget --log ;;
         general) echo --query --count --budget --log ;;
-        surecheck | generalcheck) echo --query --log ;;
+        surecheck | generalcheck | forevercheck) echo --query --log ;;
         *) echo --query --count --budget --after --log --form --to --key --horizon --size ;;
     esac
 }
@@ -47,7 +47,7 @@ _ccalc() {
     done
     COMPREPLY=()
     case $before in
-        --mode) kind="list check make convert why export models modelscheck sure surecheck general generalcheck" ;;
+        --mode) kind="list check make convert why export models modelscheck sure surecheck general generalcheck forever forevercheck" ;;
         --query) kind=$(_ccalc_labels) ;;
         --form) kind="1 2" ;;
         --count | --budget | --after | --key | --horizon | --size) return ;;

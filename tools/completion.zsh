@@ -40,14 +40,14 @@ _ccalc() {
         export) names=(--query --horizon) ;;
         models) names=(--count --budget --log --form) ;;
         modelscheck) names=(--log) ;;
-        sure) names=(--query --budget --log) ;;
+        sure|forever) names=(--query --budget --log) ;;
         general) names=(--query --count --budget --log) ;;
-        surecheck|generalcheck) names=(--query --log) ;;
+        surecheck|generalcheck|forevercheck) names=(--query --log) ;;
         *) names=(${(k)all}) ;;
     esac
     for name in $names; do options+=("$name$all[$name]"); done
     _arguments \
-        '--mode[the mode]:mode:(list check make convert why export models modelscheck sure surecheck general generalcheck)' \
+        '--mode[the mode]:mode:(list check make convert why export models modelscheck sure surecheck general generalcheck forever forevercheck)' \
         $options \
         '*:description:_files -g "*.(cc|ccalc|cnf)"'
 }

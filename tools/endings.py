@@ -14,6 +14,8 @@ HISTORIES, NONE, HOLDS, VACUOUS, FAILS, MODELS, NO_MODEL, SURE, ACCEPTED, SPENT,
     "histories", "no history", "claim holds", "claim vacuous", "claim fails", "models", "no model", "complete", "log accepted", "spent",
     "refused", "other", "broken",
 )
+# Of forever mode: the claim holds at every horizon, none has a history, one has, or the question is open.
+EVER, NEVER, FOUND, OPEN = "claim holds at every horizon", "no history at any horizon", "history found", "not settled"
 FAULTS = {4: "a file cannot be read", 5: "an output cannot be written", 6: "out of memory", 70: "the program is not built"}
 
 
@@ -54,6 +56,10 @@ def of_code_0(last: str, horizon: int | None) -> Ending | None:
     plain = {"claim holds": HOLDS, "claim holds, no history meets the conditions": VACUOUS, "complete": SURE}
     if last in plain:
         return Ending(plain[last], last=last)
+    if last == FOUND:
+        return Ending(FOUND, horizon=horizon, last=last)
+    if re.fullmatch(f"{EVER} from [0-9]+ on", last):
+        return Ending(EVER, last=last)
     if last.startswith("log accepted: "):
         return Ending(ACCEPTED, last=last)
     return listed(HISTORIES, last, "complete") or listed(MODELS, last, "complete") or (Ending(OTHER, last=last) if last else None)
@@ -62,12 +68,14 @@ def of_code_0(last: str, horizon: int | None) -> Ending | None:
 def of_code_1(last: str, horizon: int | None) -> Ending | None:
     if last == "claim fails":
         return Ending(FAILS, horizon=horizon, last=last)
+    if re.fullmatch(f"{NEVER} from [0-9]+ on", last):
+        return Ending(NEVER, last=last)
     return Ending({"no history": NONE, "no model": NO_MODEL}.get(last, OTHER), last=last) if last else None
 
 
 def of_code_3(last: str, horizon: int | None) -> Ending | None:
-    if last == "budget spent":
-        return Ending(SPENT, last=last)
+    if last in ("budget spent", OPEN):
+        return Ending(OPEN if last == OPEN else SPENT, last=last)
     return listed(SPENT, last, "budget spent")
 
 
@@ -91,7 +99,7 @@ def ending_of(code: int, out: Iterable[str], err: Sequence[str]) -> Ending:
     """The ending of a run that had this code, from its lines."""
     last, horizon = "", None
     for last in out:
-        found = re.fullmatch(r"horizon ([0-9]+): counterexample", last)
+        found = re.fullmatch(r"horizon ([0-9]+): (?:counterexample|history 1)", last)
         horizon = int(found[1]) if found else horizon
     if code == 2:
         refusal = refusal_in(err)
@@ -129,7 +137,7 @@ class Expected:
 
 FORMS = (
     "no history | [N] history|histories [at M] | claim holds | claim vacuous | claim fails [at M] | no model | [N] model|models | complete"
-    " | log accepted | spent [at M] | refused [NUMBER] [NAME] | ends TEXT, each with [line TEXT ..] behind it"
+    " | claim holds at every horizon | no history at any horizon | history found [at M] | not settled | log accepted | spent [at M] | refused [NUMBER] [NAME] | ends TEXT, each with [line TEXT ..] behind it"
 )
 
 
@@ -155,7 +163,7 @@ def expected_ending(words: list[str]) -> Ending:
     found = re.fullmatch(r"(?:(0|[1-9][0-9]{0,8}) )?(history|histories|model|models)", text)
     if found and (horizon is None or found[2].startswith("hist")):
         return Ending(HISTORIES if found[2].startswith("hist") else MODELS, int(found[1]) if found[1] else None, horizon)
-    plain = (NONE, HOLDS, VACUOUS, FAILS, NO_MODEL, SURE, ACCEPTED, SPENT)
-    if text in plain and (horizon is None or text in (FAILS, SPENT)):
+    plain = (NONE, HOLDS, VACUOUS, FAILS, NO_MODEL, SURE, ACCEPTED, SPENT, EVER, NEVER, FOUND, OPEN)
+    if text in plain and (horizon is None or text in (FAILS, SPENT, FOUND)):
         return Ending(text, horizon=horizon)
     raise BadExpectation(f"`{' '.join(words)}` is no ending that a suite may expect: {FORMS}")

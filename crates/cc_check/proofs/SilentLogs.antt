@@ -15,11 +15,12 @@ use Rattle.cc_defs.specs.Refusals.{IsRefusedBy}
 use Rattle.cc_defs.specs.Sections.{Axioms, Finding, IsFound}
 use Rattle.cc_check.specs.declared.silent.Passed.{Passed}
 use Rattle.cc_check.specs.declared.silent.Passed.TheVariants as passeds
+use Rattle.cc_check.specs.declared.silent.Place.{Place}
 use Rattle.cc_check.specs.declared.silent.SilentVerdict.{SilentVerdict}
 use Rattle.cc_check.specs.declared.silent.SilentVerdict.TheVariants as verdicts
 use Rattle.cc_check.specs.Clauses.{as_text}
 use Rattle.cc_check.specs.Parts.{IsSecond}
-use Rattle.cc_check.specs.Silent.{BeginsSection, IsEmptySection, IsNextSection, IsSilentFault, IsSilentVerdictBehind, IsSilentVerdictOf, IsStopped, IsUnread, LeadsTo, PassesNoLimit, SilentSection, SilentSubject, refused_for}
+use Rattle.cc_check.specs.Silent.{BeginsSection, IsEmptySection, IsNextSection, IsRightAt, IsSilentFault, IsSilentVerdictBehind, IsSilentVerdictOf, IsStopped, IsUnread, LeadsTo, PassesNoLimit, SilentSection, SilentSubject, ended_at, first_place, place_behind, refused_for}
 use Rattle.cc_check.specs.SilentParts.{IsBehindFault, IsPassFault, IsPassedFrom, IsShorter, IsSilentInside}
 use Rattle.cc_check.specs.Texts.{IsFirstLine}
 use Rattle.cc_check.proofs.FirstTexts.{line_text_first}
@@ -79,18 +80,18 @@ module _ {H : Type 0} (subject : SilentSubject H) (all rest : List ℕ) (count :
 
 -- ---- a section
 
-module _ {H : Type 0} (subject : SilentSubject H) (line : ℕ) (text behind : List ℕ) where
-  pub unread_stops : (cause : Cause) (verdict : SilentVerdict) → IsUnread subject text → IsSecond text cause → verdict ≡ verdicts.Refused line cause → (sections : ℕ) →
-      IsStopped subject (PassesNoLimit subject) sections line (text ∷ lines_in behind) verdict
-  unread_stops causes.Form verdict unread h is sections = inl (unread, h, is)
-  unread_stops causes.Section verdict unread h is sections = inr (inl (unread, h, is))
-  unread_stops causes.Header verdict unread h is sections = absurd h
-  unread_stops causes.Literal verdict unread h is sections = absurd h
-  unread_stops causes.Number verdict unread h is sections = absurd h
-  unread_stops causes.Pivot verdict unread h is sections = absurd h
-  unread_stops causes.Clause verdict unread h is sections = absurd h
-  unread_stops causes.Row verdict unread h is sections = absurd h
-  unread_stops causes.NotRefuted verdict unread h is sections = absurd h
+module _ {H : Type 0} (subject : SilentSubject H) (place : Place) (line : ℕ) (text behind : List ℕ) where
+  pub unread_stops : (cause : Cause) (verdict : SilentVerdict) → IsUnread subject text → IsSecond text cause → verdict ≡ verdicts.Refused line cause →
+      IsStopped subject (PassesNoLimit subject) place line (text ∷ lines_in behind) verdict
+  unread_stops causes.Form verdict unread h is = inl (unread, h, is)
+  unread_stops causes.Section verdict unread h is = inr (inl (unread, h, is))
+  unread_stops causes.Header verdict unread h is = absurd h
+  unread_stops causes.Literal verdict unread h is = absurd h
+  unread_stops causes.Number verdict unread h is = absurd h
+  unread_stops causes.Pivot verdict unread h is = absurd h
+  unread_stops causes.Clause verdict unread h is = absurd h
+  unread_stops causes.Row verdict unread h is = absurd h
+  unread_stops causes.NotRefuted verdict unread h is = absurd h
 
   module _ (heading : H) (inside : List ℕ) (count : ℕ) (rest : List ℕ) (reads : subject.Reads text heading) (i : IsSilentInside subject behind inside count rest) where
     abbrev here : SilentSection H
@@ -106,12 +107,12 @@ module _ {H : Type 0} (subject : SilentSubject H) (line : ℕ) (text behind : Li
       next = i.next;
     }
 
-    pub not_right_stops : (verdict : SilentVerdict) → (subject.Right heading → ⊥) → verdict ≡ verdicts.Refused line causes.Section → (sections : ℕ) →
-        IsStopped subject (PassesNoLimit subject) sections line (text ∷ lines_in behind) verdict
-    not_right_stops verdict wrong is sections = inr (inr (here, lines_in rest, next_here, inl (wrong, is)))
+    pub not_right_stops : (verdict : SilentVerdict) → (IsRightAt subject place heading → ⊥) → verdict ≡ verdicts.Refused line causes.Section →
+        IsStopped subject (PassesNoLimit subject) place line (text ∷ lines_in behind) verdict
+    not_right_stops verdict wrong is = inr (inr (here, lines_in rest, next_here, inl (wrong, is)))
 
-    module _ (right : subject.Right heading) where
-      pub pass_fault : (fault : Fault) → IsRefusedBy (subject.limit heading) fault → IsPassFault subject line (text ∷ lines_in behind) fault
+    module _ (right : IsRightAt subject place heading) where
+      pub pass_fault : (fault : Fault) → IsRefusedBy (subject.limit heading) fault → IsPassFault subject place line (text ∷ lines_in behind) fault
       pass_fault (faults.Refused refusal) is = (here, lines_in rest, next_here, right, is)
       pass_fault faults.OutOfMemory is = tt
 
@@ -120,38 +121,39 @@ module _ {H : Type 0} (subject : SilentSubject H) (line : ℕ) (text behind : Li
         found_here : IsFound (as_text false) (subject.axioms heading) ((subject.axioms heading).clauses) 0 (line + 1) (lines_in inside) finding
         found_here = subst (λ (a : Axioms). IsFound (as_text false) a a.clauses 0 (line + 1) (lines_in inside) finding) made found
 
-        pub wrong_stops : (verdict : SilentVerdict) → refused_for finding ≡ Some verdict → (sections : ℕ) →
-            IsStopped subject (PassesNoLimit subject) sections line (text ∷ lines_in behind) verdict
-        wrong_stops verdict is sections = inr (inr (here, lines_in rest, next_here, inr (right, within, (finding, found_here, is))))
+        pub wrong_stops : (verdict : SilentVerdict) → refused_for finding ≡ Some verdict →
+            IsStopped subject (PassesNoLimit subject) place line (text ∷ lines_in behind) verdict
+        wrong_stops verdict is = inr (inr (here, lines_in rest, next_here, inr (right, within, (finding, found_here, is))))
 
-        pub right_goes : (others : Bor (List ℕ)) → others.now ≡ rest → refused_for finding ≡ None →
-            IsPassedFrom subject line (text ∷ lines_in behind) (passeds.Goes count others)
-        right_goes others same is = (
+        pub right_goes : (others : Bor (List ℕ)) → others.now ≡ rest → (closes : Bool) → closes ≡ subject.closes heading → refused_for finding ≡ None →
+            IsPassedFrom subject place line (text ∷ lines_in behind) (passeds.Goes closes count others)
+        right_goes others same closes closed is = (
           here,
           subst (λ (r : List ℕ). IsNextSection subject line (text ∷ lines_in behind) here (lines_in r)) (sym same) next_here,
           (right, within, (finding, found_here, is)),
+          closed,
           i.counted,
         )
 
 -- ---- sections one after another
 
-module _ {H : Type 0} (subject : SilentSubject H) (Passes : H → Type 0) (section : SilentSection H) (behind : List (List ℕ)) (empty : IsEmptySection subject Passes section) where
-  leads_more : (line : ℕ) (texts : List (List ℕ)) (sections : List (SilentSection H)) (after : ℕ) (rest : List (List ℕ)) → LeadsTo subject Passes line texts sections after rest →
-      IsNextSection subject after rest section behind → LeadsTo subject Passes line texts (sections ++ section ∷ []) (after + 1 + length section.texts) behind
-  leads_more line texts [] after rest (same_line, same) next = (
+module _ {H : Type 0} (subject : SilentSubject H) (Passes : H → Type 0) (section : SilentSection H) (behind : List (List ℕ)) (last : Place) (empty : IsEmptySection subject Passes last section) where
+  leads_more : (place : Place) (line : ℕ) (texts : List (List ℕ)) (sections : List (SilentSection H)) (after : ℕ) (rest : List (List ℕ)) →
+      LeadsTo subject Passes place line texts sections last after rest → IsNextSection subject after rest section behind →
+      LeadsTo subject Passes place line texts (sections ++ section ∷ []) (place_behind subject last section.heading) (after + 1 + length section.texts) behind
+  leads_more place line texts [] after rest (same_place, same_line, same) next = (
     behind,
     subst (λ (n : ℕ). IsNextSection subject n texts section behind) same_line
         (subst (λ (ts : List (List ℕ)). IsNextSection subject after ts section behind) same next),
-    empty,
-    (ap (λ (n : ℕ). n + 1 + length section.texts) same_line, refl),
+    subst (λ (p : Place). IsEmptySection subject Passes p section) same_place empty,
+    (ap (λ (p : Place). place_behind subject p section.heading) same_place, ap (λ (n : ℕ). n + 1 + length section.texts) same_line, refl),
   )
-  leads_more line texts (first ∷ sections) after rest (between, is_next, is_empty, more) next =
-      (between, is_next, is_empty, leads_more (line + 1 + length first.texts) between sections after rest more next)
+  leads_more place line texts (first ∷ sections) after rest (between, is_next, is_empty, more) next =
+      (between, is_next, is_empty, leads_more (place_behind subject place first.heading) (line + 1 + length first.texts) between sections after rest more next)
 
-pub record SilentSoFar {H : Type 0} (subject : SilentSubject H) (texts : List (List ℕ)) (count line : ℕ) (rest : List ℕ) : Type 0 where
+pub record SilentSoFar {H : Type 0} (subject : SilentSubject H) (texts : List (List ℕ)) (place : Place) (line : ℕ) (rest : List ℕ) : Type 0 where
   pub sections : List (SilentSection H)
-  pub leads : LeadsTo subject (PassesNoLimit subject) 2 texts sections line (lines_in rest)
-  pub counted : count ≡ length sections
+  pub leads : LeadsTo subject (PassesNoLimit subject) first_place 2 texts sections place line (lines_in rest)
 
 -- the numbers of the lines and of the sections so far
 pub record AreFewSoFar (count line : ℕ) (rest : List ℕ) : Type 0 where
@@ -159,8 +161,8 @@ pub record AreFewSoFar (count line : ℕ) (rest : List ℕ) : Type 0 where
   pub few : line + length rest ≤ 268435458
   pub fewer : count ≤ line
 
-pub silent_begun : {H : Type 0} (subject : SilentSubject H) (body : List ℕ) → SilentSoFar subject (lines_in body) 0 2 body
-silent_begun subject body = record { sections = []; leads = (refl, refl); counted = refl }
+pub silent_begun : {H : Type 0} (subject : SilentSubject H) (body : List ℕ) → SilentSoFar subject (lines_in body) first_place 2 body
+silent_begun subject body = record { sections = []; leads = (refl, refl, refl) }
 
 pub few_begun : (body : List ℕ) → length body ≤ 268435456 → AreFewSoFar 0 2 body
 few_begun body few = record { least = omega arith; few = omega arith; fewer = omega arith }
@@ -174,54 +176,68 @@ module _ (count line : ℕ) (rest : List ℕ) (h : AreFewSoFar count line rest) 
       let l = h.least in
       (omega arith, omega arith)
 
-  pub passed_shorter : (passed : Passed) (more : ℕ) (others : Bor (List ℕ)) → passed ≡ passeds.Goes more others → IsShorter (length behind) passed →
-      length others.now < length rest
-  passed_shorter passed more others is shorter =
-      let less : more + length others.now ≤ length behind = subst (IsShorter (length behind)) is shorter in
-      let e = ap length cut.parts ∙ length-append text behind in
-      let some = cut.some in
-      omega arith
+  module _ (passed : Passed) (closes : Bool) (more : ℕ) (others : Bor (List ℕ)) (is : passed ≡ passeds.Goes closes more others) (shorter : IsShorter (length behind) passed) where
+    pub passed_shorter : length others.now < length rest
+    passed_shorter =
+        let less : more + length others.now ≤ length behind = subst (IsShorter (length behind)) is shorter in
+        let e = ap length cut.parts ∙ length-append text behind in
+        let some = cut.some in
+        omega arith
 
-  pub few_more : (passed : Passed) (more : ℕ) (others : Bor (List ℕ)) → passed ≡ passeds.Goes more others → IsShorter (length behind) passed →
-      AreFewSoFar (count + 1) (line + 1 + more) others.now
-  few_more passed more others is shorter =
-      let less : more + length others.now ≤ length behind = subst (IsShorter (length behind)) is shorter in
-      let e = ap length cut.parts ∙ length-append text behind in
-      let some = cut.some in
-      let f = h.few in
-      let g = h.fewer in
-      let l = h.least in
-      record { least = omega arith; few = omega arith; fewer = omega arith }
+    pub few_more : AreFewSoFar (count + 1) (line + 1 + more) others.now
+    few_more =
+        let less : more + length others.now ≤ length behind = subst (IsShorter (length behind)) is shorter in
+        let e = ap length cut.parts ∙ length-append text behind in
+        let some = cut.some in
+        let f = h.few in
+        let g = h.fewer in
+        let l = h.least in
+        record { least = omega arith; few = omega arith; fewer = omega arith }
 
-module _ {H : Type 0} (subject : SilentSubject H) (texts : List (List ℕ)) (count line : ℕ) (rest : List ℕ) (h : SilentSoFar subject texts count line rest) where
+module _ {H : Type 0} (subject : SilentSubject H) (texts : List (List ℕ)) (place : Place) (line : ℕ) (rest : List ℕ) (h : SilentSoFar subject texts place line rest) where
+  pub silent_ends : length rest ≡ 0 → (verdict : SilentVerdict) → verdict ≡ ended_at subject place line → IsSilentVerdictBehind subject (PassesNoLimit subject) texts verdict
+  silent_ends none verdict is = (
+    h.sections,
+    place,
+    line,
+    lines_in rest,
+    h.leads,
+    subst (λ (t : List ℕ). IsStopped subject (PassesNoLimit subject) place line (lines_in t) verdict) (sym (nil_from_length rest none)) is,
+  )
+
   module _ (text behind : List ℕ) (cut : IsFirstLine rest text behind) where
-    pub silent_more : (passed : Passed) (more : ℕ) (others : Bor (List ℕ)) → passed ≡ passeds.Goes more others → IsPassedFrom subject line (text ∷ lines_in behind) passed →
-        SilentSoFar subject texts (count + 1) (line + 1 + more) others.now
-    silent_more passed more others is from =
-        let (section, next, empty, lines) : IsPassedFrom subject line (text ∷ lines_in behind) (passeds.Goes more others) =
-        subst (IsPassedFrom subject line (text ∷ lines_in behind)) is from in
+    pub silent_more : (passed : Passed) (closes : Bool) (more : ℕ) (others : Bor (List ℕ)) → passed ≡ passeds.Goes closes more others →
+        IsPassedFrom subject place line (text ∷ lines_in behind) passed →
+        SilentSoFar subject texts (record { before = place.before + 1; is_closed = closes }) (line + 1 + more) others.now
+    silent_more passed closes more others is from =
+        let (section, next, empty, closed, lines) : IsPassedFrom subject place line (text ∷ lines_in behind) (passeds.Goes closes more others) =
+        subst (IsPassedFrom subject place line (text ∷ lines_in behind)) is from in
         record {
           sections = h.sections ++ section ∷ [];
-          leads = subst (λ (n : ℕ). LeadsTo subject (PassesNoLimit subject) 2 texts (h.sections ++ section ∷ []) (line + 1 + n) (lines_in others.now)) (sym lines)
-              (leads_more subject (PassesNoLimit subject) section (lines_in others.now) empty 2 texts h.sections line (lines_in rest) h.leads
-              (subst (λ (ts : List (List ℕ)). IsNextSection subject line ts section (lines_in others.now)) (sym cut.lines) next));
-          counted = ap (λ (n : ℕ). n + 1) h.counted ∙ sym (length-append h.sections (section ∷ []));
+          leads = subst (λ (c : Bool). LeadsTo subject (PassesNoLimit subject) first_place 2 texts (h.sections ++ section ∷ []) (record { before = place.before + 1; is_closed = c })
+              (line + 1 + more) (lines_in others.now)) (sym closed)
+              (subst (λ (n : ℕ). LeadsTo subject (PassesNoLimit subject) first_place 2 texts (h.sections ++ section ∷ []) (place_behind subject place section.heading) (line + 1 + n)
+              (lines_in others.now)) (sym lines)
+              (leads_more subject (PassesNoLimit subject) section (lines_in others.now) place empty first_place 2 texts h.sections line (lines_in rest) h.leads
+              (subst (λ (ts : List (List ℕ)). IsNextSection subject line ts section (lines_in others.now)) (sym cut.lines) next)));
         }
 
-    pub silent_stops : (passed : Passed) (verdict : SilentVerdict) → passed ≡ passeds.Stops verdict → IsPassedFrom subject line (text ∷ lines_in behind) passed →
+    pub silent_stops : (passed : Passed) (verdict : SilentVerdict) → passed ≡ passeds.Stops verdict → IsPassedFrom subject place line (text ∷ lines_in behind) passed →
         IsSilentVerdictBehind subject (PassesNoLimit subject) texts verdict
     silent_stops passed verdict is from = (
       h.sections,
+      place,
       line,
       lines_in rest,
       h.leads,
-      subst (λ (ts : List (List ℕ)). IsStopped subject (PassesNoLimit subject) (length h.sections) line ts verdict) (sym cut.lines)
-          (subst (IsPassedFrom subject line (text ∷ lines_in behind)) is from (length h.sections)),
+      subst (λ (ts : List (List ℕ)). IsStopped subject (PassesNoLimit subject) place line ts verdict) (sym cut.lines)
+          (subst (IsPassedFrom subject place line (text ∷ lines_in behind)) is from),
     )
 
-    pub silent_past : (fault : Fault) → IsPassFault subject line (text ∷ lines_in behind) fault → IsBehindFault subject texts fault
+    pub silent_past : (fault : Fault) → IsPassFault subject place line (text ∷ lines_in behind) fault → IsBehindFault subject texts fault
     silent_past (faults.Refused refusal) (section, after, next, right, limit) = record {
       sections = h.sections;
+      place = place;
       line = line;
       rest = lines_in rest;
       leads = h.leads;
@@ -257,27 +273,27 @@ module _ {H : Type 0} (subject : SilentSubject H) (bytes : List ℕ) where
 -- ---- a verdict within the limits is the verdict
 
 module _ {H : Type 0} (subject : SilentSubject H) where
-  leads_weaker : (line : ℕ) (texts : List (List ℕ)) (sections : List (SilentSection H)) (after : ℕ) (rest : List (List ℕ)) →
-      LeadsTo subject (PassesNoLimit subject) line texts sections after rest → LeadsTo subject (λ _. Unit {0}) line texts sections after rest
-  leads_weaker line texts [] after rest h = h
-  leads_weaker line texts (first ∷ sections) after rest (between, next, (right, within, found), more) =
-      (between, next, (right, tt, found), leads_weaker (line + 1 + length first.texts) between sections after rest more)
+  leads_weaker : (place : Place) (line : ℕ) (texts : List (List ℕ)) (sections : List (SilentSection H)) (last : Place) (after : ℕ) (rest : List (List ℕ)) →
+      LeadsTo subject (PassesNoLimit subject) place line texts sections last after rest → LeadsTo subject (λ _. Unit {0}) place line texts sections last after rest
+  leads_weaker place line texts [] last after rest h = h
+  leads_weaker place line texts (first ∷ sections) last after rest (between, next, (right, within, found), more) =
+      (between, next, (right, tt, found), leads_weaker (place_behind subject place first.heading) (line + 1 + length first.texts) between sections last after rest more)
 
-  stopped_weaker : (sections line : ℕ) (texts : List (List ℕ)) (verdict : SilentVerdict) → IsStopped subject (PassesNoLimit subject) sections line texts verdict →
-      IsStopped subject (λ _. Unit {0}) sections line texts verdict
-  stopped_weaker sections line [] verdict h = h
-  stopped_weaker sections line (text ∷ texts) verdict (inl h) = inl h
-  stopped_weaker sections line (text ∷ texts) verdict (inr (inl h)) = inr (inl h)
-  stopped_weaker sections line (text ∷ texts) verdict (inr (inr (section, behind, next, inl h))) = inr (inr (section, behind, next, inl h))
-  stopped_weaker sections line (text ∷ texts) verdict (inr (inr (section, behind, next, inr (right, within, found)))) =
+  stopped_weaker : (place : Place) (line : ℕ) (texts : List (List ℕ)) (verdict : SilentVerdict) → IsStopped subject (PassesNoLimit subject) place line texts verdict →
+      IsStopped subject (λ _. Unit {0}) place line texts verdict
+  stopped_weaker place line [] verdict h = h
+  stopped_weaker place line (text ∷ texts) verdict (inl h) = inl h
+  stopped_weaker place line (text ∷ texts) verdict (inr (inl h)) = inr (inl h)
+  stopped_weaker place line (text ∷ texts) verdict (inr (inr (section, behind, next, inl h))) = inr (inr (section, behind, next, inl h))
+  stopped_weaker place line (text ∷ texts) verdict (inr (inr (section, behind, next, inr (right, within, found)))) =
       inr (inr (section, behind, next, inr (right, tt, found)))
 
   verdict_weaker : (texts : List (List ℕ)) (verdict : SilentVerdict) → IsSilentVerdictOf subject (PassesNoLimit subject) texts verdict →
       IsSilentVerdictOf subject (λ _. Unit {0}) texts verdict
   verdict_weaker [] verdict h = h
   verdict_weaker (text ∷ texts) verdict (inl h) = inl h
-  verdict_weaker (text ∷ texts) verdict (inr (same, (sections, line, rest, leads, stopped))) =
-      inr (same, (sections, line, rest, leads_weaker 2 texts sections line rest leads, stopped_weaker (length sections) line rest verdict stopped))
+  verdict_weaker (text ∷ texts) verdict (inr (same, (sections, last, line, rest, leads, stopped))) =
+      inr (same, (sections, last, line, rest, leads_weaker first_place 2 texts sections last line rest leads, stopped_weaker last line rest verdict stopped))
 
 -- ---- the answers
 

@@ -1,9 +1,9 @@
-//! Logs of sections without blocks, each ended by `empty`, under headings of any form.
+//! Logs of sections without blocks, each ended by `empty`, under headings of any form, each right in its place.
 ghost use Rattle.std.specs.Prelude.{◌≡◌, ◌↔◌, ℕ, ◌+◌, ◌≤◌, ◌∷◌, false, length, IfErr, IfOk, IsTrue, List, MatchOption, None, OnOk};
 ghost use Rattle.std.specs.Bool.{MatchBool};
 ghost use Rattle.cc_check.specs.declared.silent.SilentVerdict.TheVariants as verdicts;
 ghost use Rattle.cc_check.specs.Clauses.{HasLineBehind, IsFoundInBytes, plain_finding, reading_as};
-ghost use Rattle.cc_check.specs.Silent.{IsSilentFault, IsSilentVerdict, IsSilentVerdictBehind, IsSilentVerdictWithin, IsUnread, PassesNoLimit, SilentSubject, refused_for};
+ghost use Rattle.cc_check.specs.Silent.{IsRightAt, IsSilentFault, IsSilentVerdict, IsSilentVerdictBehind, IsSilentVerdictWithin, IsUnread, PassesNoLimit, SilentSubject, ended_at as ended_in, refused_for};
 ghost use Rattle.cc_check.specs.SilentParts.{IsBehindFault, IsPassFault, IsPassedFrom, IsShorter, IsSilentInside};
 ghost use Rattle.cc_defs.specs.declared.log.Version.TheVariants as versions;
 ghost use Rattle.cc_defs.specs.Limits.{most_log_bytes};
@@ -41,16 +41,25 @@ pub trait Silent {
         ensures { (of : Of) → Is self.now of → IfOk result (λ heading.
             MatchOption heading (IsUnread (subject of) text.now) ((subject of).Reads text.now)) };
 
-    /// Whether a log may have a section under this heading.
-    fn is_right(&self, heading: &Self::Heading) -> bool
+    /// Whether a section under this heading may stand behind so many, none of which closed the log.
+    fn is_right(&self, before: u32, heading: &Self::Heading) -> bool
         ensures right { (of : Of) →
-            Is self.now of → IsTrue result ↔ (subject of).Right heading.now }
+            Is self.now of → IsTrue result ↔ (subject of).Right before heading.now }
         ensures can { IsTrue result → can_form self.now heading.now };
 
-    /// The axioms of the section under a right heading. Refuses exactly the limit that they pass.
+    /// Whether nothing may stand behind the section under this heading.
+    fn closes(&self, heading: &Self::Heading) -> bool
+        ensures { (of : Of) → Is self.now of → result ≡ (subject of).closes heading.now };
+
+    /// Whether a log may end though no section closed it.
+    fn may_stay_open(&self) -> bool
+        ensures { (of : Of) → Is self.now of → result ≡ (subject of).may_stay_open };
+
+    /// The axioms of the section under a heading that is right in some place. Refuses exactly the limit that they pass.
     fn form(&self, alloc: Global, heading: &Self::Heading) -> Result<Form, Fault>
         requires can { can_form self.now heading.now }
-        requires right { (of : Of) → Is self.now of → (subject of).Right heading.now }
+        requires right { (of : Of) →
+            Is self.now of → (before : ℕ) × (subject of).Right before heading.now }
         ensures made { (of : Of) →
             Is self.now of → IfOk result (λ form. form ≡ (subject of).axioms heading.now) }
         ensures within { (of : Of) →
@@ -68,10 +77,21 @@ pub enum SilentVerdict {
     Refused { line: u32, cause: Cause },
 }
 
-// A right section, with how many lines it has and what stands behind them; or the log stops at it.
+/// Where a section stands: behind so many others, and whether the last of them closed the log.
+#[derive(Clone, Copy)]
+pub struct Place {
+    pub before: u32,
+    pub is_closed: bool,
+}
+
+// A right section: whether it closes the log, how many lines it has, and what stands behind them; or the log stops at it.
 #[derive(Clone, Copy)]
 enum Passed<'b> {
-    Goes { count: u32, rest: &'b [u8] },
+    Goes {
+        closes: bool,
+        count: u32,
+        rest: &'b [u8],
+    },
     Stops(SilentVerdict),
 }
 
@@ -171,7 +191,8 @@ fn find_under<S: Silent>(
     requires few { length bytes.now ≤ most_log_bytes }
     requires line { first ≤ most_log_bytes + 2 }
     requires can { S.can_form kind.now heading.now }
-    requires right { (of : S.Of) → S.Is kind.now of → (S.subject of).Right heading.now }
+    requires right { (of : S.Of) →
+        S.Is kind.now of → (before : ℕ) × (S.subject of).Right before heading.now }
     ensures found { (of : S.Of) → S.Is kind.now of → IfOk result (λ finding.
         IsFoundInBytes (reading_as versions.First false) ((S.subject of).axioms heading.now) first
         bytes.now (plain_finding finding)) }
@@ -187,11 +208,21 @@ fn find_under<S: Silent>(
     Ok(finding?)
 }
 
+// Whether a heading is right in a place.
+fn is_right_at<S: Silent>(kind: &S, place: Place, heading: &S::Heading) -> bool
+    ensures right { (of : S.Of) →
+        S.Is kind.now of → IsTrue result ↔ IsRightAt (S.subject of) place heading.now }
+    ensures can { IsTrue result → S.can_form kind.now heading.now }
+{
+    !place.is_closed && kind.is_right(place.before, heading)
+}
+
 // The section under the heading at a line: a right one is passed.
 fn pass_under<'b, S: Silent>(
     alloc: Global,
     kind: &S,
     heading: &S::Heading,
+    place: Place,
     line: u32,
     behind: &'b [u8],
 ) -> Result<Passed<'b>, Fault>
@@ -199,20 +230,21 @@ fn pass_under<'b, S: Silent>(
     requires line { line ≤ most_log_bytes + 1 }
     ensures passed { (of : S.Of) (text : List ℕ) → S.Is kind.now of →
         (S.subject of).Reads text heading.now →
-        IfOk result (IsPassedFrom (S.subject of) line (text ∷ lines_in behind.now)) }
+        IfOk result (IsPassedFrom (S.subject of) place line (text ∷ lines_in behind.now)) }
     ensures shorter { IfOk result (IsShorter (length behind.now)) }
     ensures refused { (of : S.Of) (text : List ℕ) → S.Is kind.now of →
         (S.subject of).Reads text heading.now →
-        IfErr result (IsPassFault (S.subject of) line (text ∷ lines_in behind.now)) }
+        IfErr result (IsPassFault (S.subject of) place line (text ∷ lines_in behind.now)) }
 {
     let inside = inside_of(alloc, kind, behind)?;
-    if !kind.is_right(heading) {
+    if !is_right_at(kind, place, heading) {
         return Ok(Passed::Stops(refused(line, Cause::Section)));
     }
     let finding = find_under(alloc, kind, heading, line + 1, inside.bytes)?;
     match refusal_of(finding) {
         Some(verdict) => Ok(Passed::Stops(verdict)),
         None => Ok(Passed::Goes {
+            closes: kind.closes(heading),
             count: inside.count,
             rest: inside.rest,
         }),
@@ -223,6 +255,7 @@ fn pass_under<'b, S: Silent>(
 fn pass_section<'b, S: Silent>(
     alloc: Global,
     kind: &S,
+    place: Place,
     line: u32,
     text: &[u8],
     behind: &'b [u8],
@@ -230,16 +263,29 @@ fn pass_section<'b, S: Silent>(
     requires few { length behind.now ≤ most_log_bytes }
     requires line { line ≤ most_log_bytes + 1 }
     ensures passed { (of : S.Of) → S.Is kind.now of →
-        IfOk result (IsPassedFrom (S.subject of) line (text.now ∷ lines_in behind.now)) }
+        IfOk result (IsPassedFrom (S.subject of) place line (text.now ∷ lines_in behind.now)) }
     ensures shorter { IfOk result (IsShorter (length behind.now)) }
     ensures refused { (of : S.Of) → S.Is kind.now of →
-        IfErr result (IsPassFault (S.subject of) line (text.now ∷ lines_in behind.now)) }
+        IfErr result (IsPassFault (S.subject of) place line (text.now ∷ lines_in behind.now)) }
 {
     let Some(heading) = kind.read(alloc, text)? else {
         let cause = second_cause(text);
         return Ok(Passed::Stops(refused(line, cause)));
     };
-    pass_under(alloc, kind, &heading, line, behind)
+    pass_under(alloc, kind, &heading, place, line, behind)
+}
+
+// What is said of a log that ends in a place, at this line.
+fn ended_at<S: Silent>(kind: &S, place: Place, line: u32) -> SilentVerdict
+    ensures { (of : S.Of) → S.Is kind.now of → result ≡ ended_in (S.subject of) place line }
+{
+    if place.is_closed || kind.may_stay_open() {
+        SilentVerdict::Accepted {
+            sections: place.before,
+        }
+    } else {
+        refused(line, Cause::Section)
+    }
 }
 
 // The verdict of the sections behind the header.
@@ -252,27 +298,34 @@ fn judge_behind<S: Silent>(alloc: Global, kind: &S, body: &[u8]) -> Result<Silen
 {
     let mut rest = body;
     let mut line = 2;
-    let mut sections = 0;
+    let mut place = Place {
+        before: 0,
+        is_closed: false,
+    };
     while !rest.is_empty() {
         let (text, behind) = first_line(rest);
-        match pass_section(alloc, kind, line, text, behind)? {
+        match pass_section(alloc, kind, place, line, text, behind)? {
             Passed::Goes {
+                closes,
                 count,
                 rest: others,
             } => {
                 line = line + 1 + count;
-                sections += 1;
+                place = Place {
+                    before: place.before + 1,
+                    is_closed: closes,
+                };
                 rest = others;
             }
             Passed::Stops(verdict) => return Ok(verdict),
         }
     }
-    Ok(SilentVerdict::Accepted { sections })
+    Ok(ended_at(kind, place, line))
 }
 
 /// What a checker says of the bytes of a log of silent sections. The axioms of a section are made when it is come to, and gone
-/// before the next; a section is a part of the bytes. The log may have no section, and a heading may come twice. Refuses the
-/// first limit that the axioms under a right heading pass which has right sections before it.
+/// before the next; a section is a part of the bytes. Which heading may stand where, and whether the log may have no section, the kind
+/// says. Refuses the first limit that the axioms under a right heading pass which has right sections before it.
 pub fn judge_silent<S: Silent>(
     alloc: Global,
     kind: &S,

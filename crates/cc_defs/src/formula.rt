@@ -20,7 +20,6 @@ pub enum Term {
 }
 
 /// A formula. A bracket has the number of its variable and the sort that it goes over.
-#[derive(Drop)]
 pub enum Formula {
     True,
     False,
@@ -39,4 +38,18 @@ pub enum Formula {
     Same(Box<Formula>, Box<Formula>),
     ForAll(u32, u32, Box<Formula>),
     Exists(u32, u32, Box<Formula>),
+}
+
+// By hand, so that whoever lets a formula go has one call there, and not a drop for each variant.
+impl Drop for Formula {
+    fn drop(self) {
+        match self {
+            Formula::True | Formula::False => {}
+            Formula::Equal(_, _) | Formula::Less(_, _) | Formula::AtMost(_, _) => {}
+            Formula::Not(_) => {}
+            Formula::Both(_, _) | Formula::Either(_, _) => {}
+            Formula::Implies(_, _) | Formula::Same(_, _) => {}
+            Formula::ForAll(_, _, _) | Formula::Exists(_, _, _) => {}
+        }
+    }
 }

@@ -54,7 +54,6 @@ pub struct Condition {
 
 /// A query: the least and the greatest horizon that are tried, the conditions that histories are to meet, and the claim
 /// that is asked of them. Its formulas have no free variable. The place is that of its statement.
-#[derive(Drop)]
 pub struct Query {
     pub label: Option<Name>,
     pub range: Option<(u32, u32)>,
@@ -62,6 +61,20 @@ pub struct Query {
     pub claim: Option<Condition>,
     pub file: u32,
     pub line: u32,
+}
+
+// By hand, so that whoever lets a query go has one call there, and not a drop for each field.
+impl Drop for Query {
+    fn drop(self) {
+        let Query {
+            label: _,
+            range: _,
+            conditions: _,
+            claim: _,
+            file: _,
+            line: _,
+        } = self;
+    }
 }
 
 /// The queries of a description, in the order of its text.

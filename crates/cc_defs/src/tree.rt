@@ -34,7 +34,6 @@ pub enum Piece<'s> {
 }
 
 /// A formula.
-#[derive(Drop)]
 pub enum Tree<'s> {
     /// A term alone.
     Bare(TermTree<'s>),
@@ -66,6 +65,22 @@ pub enum Tree<'s> {
     ForAll(&'s str, Box<Tree<'s>>),
     /// `[\/X | F]`
     Exists(&'s str, Box<Tree<'s>>),
+}
+
+// By hand, so that whoever lets a formula go has one call there, and not a drop for each variant.
+impl<'s> Drop for Tree<'s> {
+    fn drop(self) {
+        match self {
+            Tree::Bare(_) => {}
+            Tree::Equal(_, _) | Tree::Differ(_, _) => {}
+            Tree::Less(_, _) | Tree::AtMost(_, _) => {}
+            Tree::More(_, _) | Tree::AtLeast(_, _) => {}
+            Tree::Paren(_) | Tree::Not(_) => {}
+            Tree::Both(_, _) | Tree::Either(_, _) => {}
+            Tree::Implies(_, _) | Tree::Same(_, _) => {}
+            Tree::ForAll(_, _) | Tree::Exists(_, _) => {}
+        }
+    }
 }
 
 /// A declared constant and the sorts of its arguments.
@@ -151,7 +166,6 @@ pub enum QueryItem<'s> {
 }
 
 /// A law without its `where` test. The optional parts are those behind `if` and `after`, in this order.
-#[derive(Drop)]
 pub enum LawTree<'s> {
     /// `caused F if G after H`
     Caused(Box<Tree<'s>>, Option<Box<Tree<'s>>>, Option<Box<Tree<'s>>>),
@@ -175,8 +189,21 @@ pub enum LawTree<'s> {
     NoConcurrency,
 }
 
+// By hand, as for a formula.
+impl<'s> Drop for LawTree<'s> {
+    fn drop(self) {
+        match self {
+            LawTree::Caused(_, _, _) | LawTree::Default(_, _, _) => {}
+            LawTree::Constraint(_) | LawTree::Always(_) => {}
+            LawTree::Nonexecutable(_, _) => {}
+            LawTree::Exogenous(_) | LawTree::Inertial(_) => {}
+            LawTree::Causes(_, _, _) | LawTree::MayCause(_, _, _) => {}
+            LawTree::NoConcurrency => {}
+        }
+    }
+}
+
 /// What a statement says.
-#[derive(Drop)]
 pub enum Part<'s> {
     /// `:- sorts ..`
     Sorts(List<SortItem<'s>>),
@@ -194,9 +221,30 @@ pub enum Part<'s> {
     Law(Box<LawTree<'s>>, Option<Box<Tree<'s>>>),
 }
 
+// By hand, as for a formula.
+impl<'s> Drop for Part<'s> {
+    fn drop(self) {
+        match self {
+            Part::Sorts(_) => {}
+            Part::Objects(_) => {}
+            Part::Variables(_) => {}
+            Part::Constants(_) => {}
+            Part::Query(_) => {}
+            Part::Include(_) => {}
+            Part::Law(_, _) => {}
+        }
+    }
+}
+
 /// A statement, and the line of its first token, from 1.
-#[derive(Drop)]
 pub struct Statement<'s> {
     pub part: Box<Part<'s>>,
     pub line: u32,
+}
+
+// By hand, as for a formula.
+impl<'s> Drop for Statement<'s> {
+    fn drop(self) {
+        let Statement { part: _, line: _ } = self;
+    }
 }

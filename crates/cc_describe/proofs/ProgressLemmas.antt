@@ -1,6 +1,7 @@
 -- What a statement that is taken up adds to what was read.
 use Rattle.std.proofs.Common.{◌≡◌, ◌∙◌, ℕ, ◌+◌, Bool, true, false, ◌||◌, cond, List, [], ◌∷◌, ◌++◌, length, map, flat_map, Option, Some, None, IfSome, IsTrue, Result, Ok, Err, IfOk, IfErr, OnOk, inl, inr, refl, sym, ap, subst, append-nil, arith, true≢false}
 use Rattle.std.specs.List.{list_any}
+use Rattle.std.specs.Result.{IsErrAnd}
 use Rattle.std.proofs.lemmas.Bool.{lt-ltb}
 use Rattle.std.proofs.lemmas.List.Concat.{flat_map-cons}
 use Rattle.std.proofs.lemmas.List.Folds.{list_any-append}
@@ -282,6 +283,11 @@ pub refused_by_tree : {T : Type 0} (which : Heads) (before : List Place) (file :
 refused_by_tree which before file around tokens statement (Ok name) parsed is = tt
 refused_by_tree which before file around tokens statement (Err (faults.Refused refusal)) parsed is = inr (statement, parsed, is)
 refused_by_tree which before file around tokens statement (Err faults.OutOfMemory) parsed is = tt
+
+-- at the exit of a call that did not succeed
+pub errs : {X E : Type 0} (P : E → Type 0) (result : Result X E) (error : E) → IsErrAnd result (λ given. given ≡ error) → P error → IfErr result P
+errs P (Ok x) error is so = tt
+errs P (Err given) error is so = subst P (sym is) so
 
 pub refused_by_text : (which : Heads) (before : List Place) (file : ℕ) (around : List (List ℕ)) (tokens : List TokenView) (fault : Fault) → HasRefused file tokens fault → IsRefusedStatement which before file around tokens fault
 refused_by_text which before file around tokens (faults.Refused refusal) is = inl is

@@ -183,8 +183,7 @@ pub fn describe_with<D: Desk>(
 fn definite(read: DescribedWide) -> Described
     ensures { result ≡ read.described }
 {
-    let DescribedWide { described, wide } = read;
-    drop(wide);
+    let DescribedWide { described, wide: _ } = read;
     described
 }
 

@@ -31,7 +31,7 @@ use cc_defs::{
 };
 use cc_laws::{expand, expand_wide, question};
 use cc_sorts::Table;
-use cc_syntax::{discard, parse};
+use cc_syntax::parse;
 use cc_wide::WideBase;
 use std::alloc::Global;
 
@@ -77,22 +77,13 @@ fn gives_taken_label(items: &[QueryItem<'_>], labels: &Labels) -> bool
     items.iter().any(|item| has_taken_label(item, labels))
 }
 
-/// Puts an item behind the others of a list. It is of any type, so that its drop is one call.
-fn put_last<X: Drop>(list: &mut Vec<X>, item: X) -> Result<(), OutOfMemory>
-    ensures put { OnOk result (list.new.items ≡ list.old.items ++ item ∷ []) }
-    ensures unchanged { OnErr result (list.new.items ≡ list.old.items) }
-{
-    list.push(item)?;
-    Ok(())
-}
-
 /// Puts a name behind the others of a list.
 fn add_name(alloc: Global, names: &mut Vec<Name>, name: &str) -> Result<(), OutOfMemory>
     ensures added { OnOk result (names.new.items ≡ names.old.items ++ name.now ∷ []) }
     ensures unchanged { OnErr result (names.new.items ≡ names.old.items) }
 {
-    let name = Name::of(String::from_str(alloc, name)?);
-    put_last(names, name)
+    names.push(Name::of(String::from_str(alloc, name)?))?;
+    Ok(())
 }
 
 impl Progress {
@@ -135,13 +126,9 @@ impl Progress {
         ensures rest { self.new
             ≡ record self.old { queries = self.new.queries; labels = self.new.labels } }
     {
-        match self.label(alloc, &query.label) {
-            Ok(()) => put_last(&mut self.queries, query),
-            Err(OutOfMemory) => {
-                drop(query);
-                Err(OutOfMemory)
-            }
-        }
+        self.label(alloc, &query.label)?;
+        self.queries.push(query)?;
+        Ok(())
     }
 
     /// Whether a file may be included where it is named.
@@ -186,7 +173,7 @@ impl Progress {
             ≡ take (length self.old.around.items - 1) self.old.around.items }
         ensures rest { self.new ≡ record self.old { around = self.new.around } }
     {
-        drop(self.around.pop());
+        self.around.pop();
     }
 
     /// Adds to the bytes of all files, as far as the limit goes.
@@ -388,14 +375,8 @@ pub(crate) fn take_up<'s>(
     ensures around { progress.new.around ≡ progress.old.around }
     ensures names { progress.new.names ≡ progress.old.names }
 {
-    match parse(alloc, file, tokens) {
-        Ok(statement) => {
-            let taken = take_tree(alloc, &statement, file, progress);
-            discard(statement);
-            taken
-        }
-        Err(fault) => Err(fault),
-    }
+    let statement = parse(alloc, file, tokens)?;
+    take_tree(alloc, &statement, file, progress)
 }
 
 /// The name of the file that a statement includes, if it does.

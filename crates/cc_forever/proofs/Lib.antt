@@ -1,5 +1,6 @@
-mod Fitting
-mod Inducing
-mod Kept
-mod Sought
-mod Stepping
+mod Accepting
+mod Giving
+mod Lines
+mod Proving
+mod Runs
+mod Searching

@@ -1,2 +1,4 @@
-pub mod Induction
-pub mod Steps
+pub mod Accepted
+pub mod ForeverRuns
+pub mod ForeverTold
+pub mod Forevers

@@ -1,7 +1,11 @@
-//! Every horizon at once: what an induction over the last states of a path proves.
+//! Every horizon at once: a run that looks at one horizon after another, and after each tries an induction over as many steps, until the
+//! induction holds or a horizon has a history.
 #![tactic(auto)]
 
-mod induction;
+mod forever;
+mod phase;
 pub mod theorems;
+mod turn;
 
-pub use induction::Induction;
+pub use forever::Forever;
+pub use turn::ForeverTurn;

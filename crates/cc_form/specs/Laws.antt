@@ -1,9 +1,7 @@
 -- What clause lists tell: which rows meet them, and with how many assignments.
-use Rattle.std.specs.Prelude.{◌≡◌, ℕ, ◌<◌, IsTrue, IsFalse, List, Option, Some, IfSome, slice_get}
+use Rattle.std.specs.Prelude.{ℕ, IsTrue, IsFalse, List, Option, IfSome}
 use Rattle.std.specs.List.{list_all, AllByRecursion}
 use Rattle.cc_defs.specs.declared.lists.Key.{Key}
-use Rattle.cc_defs.specs.declared.node.GroundHead.{GroundHead}
-use Rattle.cc_defs.specs.declared.node.GroundHead.TheVariants as heads
 use Rattle.cc_defs.specs.ClauseLists.{clauses_over}
 use Rattle.cc_defs.specs.Rows.{IsRow, IsBelow}
 use Rattle.cc_defs.specs.Terms.{Ground, Fits, postfix}
@@ -11,12 +9,9 @@ use Rattle.cc_defs.specs.TimedRules.{TimedRule}
 use Rattle.cc_clauses.specs.Tells.{Tells}
 use Rattle.cc_defs.specs.Sections.{Axioms}
 use Rattle.cc_theory.specs.Completion.{MeetsCompletion, holds}
+pub use Rattle.cc_theory.specs.Laws.{HeadFits}
 
 -- ---- atoms that the positions have
-
-abbrev pub HeadFits : List ℕ → GroundHead → Type 0
-HeadFits sizes (heads.Atom position value) = (size : ℕ) × (slice_get sizes position ≡ Some size) × (value < size)
-HeadFits sizes heads.Falsity = Unit {0}
 
 abbrev pub TermFits : List ℕ → Ground → Type 0
 TermFits sizes term = AllByRecursion (Fits sizes) (postfix term)

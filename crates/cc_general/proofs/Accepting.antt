@@ -1,7 +1,8 @@
 -- The log of a fair run in which no search was spent is accepted.
 use Rattle.std.proofs.Common.{◌≡◌, ◌∙◌, ℕ, suc, ◌+◌, inr, List, [], ◌∷◌, ◌++◌, map, flat_map, length, get_or, decimal, codes, Option, Some, None, refl, sym, subst, ap, arith, append_assoc, append-nil}
-use Rattle.std.specs.Prelude.{Contains, IfSome}
+use Rattle.std.specs.Prelude.{Contains, IfSome, false}
 use Rattle.std.specs.List.{AllByRecursion}
+use Rattle.cc_check.specs.declared.silent.Place.{Place}
 use Rattle.cc_check.specs.declared.silent.SilentVerdict.TheVariants as verdicts
 use Rattle.cc_check.specs.Silent.{BeginsSection, LeadsTo, SilentSection}
 use Rattle.cc_defs.specs.declared.lists.Key.{Key}
@@ -51,13 +52,15 @@ module _ (w : WideDescription) (q : Query) (budget horizon : ℕ) where
   abbrev IsGoodShown : Shown → Type 0
   IsGoodShown shown = (IsCandidateKey w q (key_of shown) × IsShownRightly w budget horizon shown) × IsWritableShown w horizon shown
 
-  -- the texts from a line on: sections, as many as these
-  record IsLed (line : ℕ) (texts : List (List ℕ)) (count : ℕ) : Type 0 where
+  abbrev behind : ℕ → Place
+  behind before = record { before = before; is_closed = false }
+
+  -- the texts from a line on, behind so many sections: sections, as many as these
+  record IsLed (before line : ℕ) (texts : List (List ℕ)) (count : ℕ) : Type 0 where
     pub begins : BeginsSection (general_subject w q) texts
     pub sections : List (SilentSection Key)
     pub after : ℕ
-    pub leads : LeadsTo (general_subject w q) (λ _. Unit {0}) line texts sections after []
-    pub as_many : length sections ≡ count
+    pub leads : LeadsTo (general_subject w q) (λ _. Unit {0}) (behind before) line texts sections (behind (before + count)) after []
 
   -- the text of a section and what is behind it
   section_cut : (shown : Shown) (rest : List ℕ) → IsShort horizon → IsGoodShown shown →
@@ -68,10 +71,10 @@ module _ (w : WideDescription) (q : Query) (budget horizon : ℕ) where
       ap lines_in (append_assoc heading inside rest) ∙ heading_cut horizon shown.row (inside ++ rest) short in_row
       ∙ ap (λ (texts : List (List ℕ)). heading ∷ texts) (lines_cut (section_lines shown.section) rest formed)
 
-  section_led : (shown : Shown) (line count : ℕ) (rest : List (List ℕ)) → IsShort horizon → IsGoodShown shown →
-      IsLed (line + 1 + length (map line_text (section_lines shown.section))) rest count →
-      IsLed line (rivals_heading horizon shown.row ∷ (map line_text (section_lines shown.section) ++ rest)) (suc count)
-  section_led shown line count rest short ((right, (looks, ends)), (in_row, formed, good)) next =
+  section_led : (shown : Shown) (before line count : ℕ) (rest : List (List ℕ)) → IsShort horizon → IsGoodShown shown →
+      IsLed (before + 1) (line + 1 + length (map line_text (section_lines shown.section))) rest count →
+      IsLed before line (rivals_heading horizon shown.row ∷ (map line_text (section_lines shown.section) ++ rest)) (suc count)
+  section_led shown before line count rest short ((right, (looks, ends)), (in_row, formed, good)) next =
       let heading = rivals_heading horizon shown.row in
       let reads : IsRivalsHeading heading (key_of shown) = record { horizon = short; row = in_row; spelled = refl } in
       let inside = map line_text (section_lines shown.section) in
@@ -90,19 +93,20 @@ module _ (w : WideDescription) (q : Query) (budget horizon : ℕ) where
             inside = all_map (λ text. (key : Key) → IsRivalsHeading text key → ⊥) IsWithin line_text unread (section_lines shown.section) (lines_within shown.section ends);
             next = next.begins;
           },
-          (right, tt, (Right words.Empty 0 last, found, refl)),
-          next.leads,
+          ((refl, right), tt, (Right words.Empty 0 last, found, refl)),
+          subst (λ (n : ℕ). LeadsTo (general_subject w q) (λ _. Unit {0}) (behind (before + 1)) (line + 1 + length inside) rest next.sections (behind n) next.after [])
+              (let e : before + 1 + count ≡ before + suc count = omega arith in e) next.leads,
         );
-        as_many = ap suc next.as_many;
       }
 
-  all_led : (all : List Shown) (line : ℕ) → IsShort horizon → AllByRecursion IsGoodShown all → IsLed line (lines_in (flat_map (shown_text horizon) all)) (length all)
-  all_led [] line short good = record { begins = tt; sections = []; after = line; leads = (refl, refl); as_many = refl }
-  all_led (shown ∷ others) line short good =
+  all_led : (all : List Shown) (before line : ℕ) → IsShort horizon → AllByRecursion IsGoodShown all → IsLed before line (lines_in (flat_map (shown_text horizon) all)) (length all)
+  all_led [] before line short good =
+      record { begins = tt; sections = []; after = line; leads = (ap behind (let e : before + 0 ≡ before = omega arith in e), refl, refl) }
+  all_led (shown ∷ others) before line short good =
       let rest = flat_map (shown_text horizon) others in
-      subst (λ (texts : List (List ℕ)). IsLed line texts (suc (length others))) (sym (section_cut shown rest short good.0))
-      (section_led shown line (length others) (lines_in rest) short good.0
-      (all_led others (line + 1 + length (map line_text (section_lines shown.section))) short good.1))
+      subst (λ (texts : List (List ℕ)). IsLed before line texts (suc (length others))) (sym (section_cut shown rest short good.0))
+      (section_led shown before line (length others) (lines_in rest) short good.0
+      (all_led others (before + 1) (line + 1 + length (map line_text (section_lines shown.section))) short good.1))
 
 -- ---- the run
 
@@ -138,18 +142,21 @@ logs_are_accepted law w q count budget run fair unspent short writable =
     let horizon = general_horizon q run in
     let sections = flat_map (shown_text horizon) run.shown in
     let right = each_row (λ row. IsCandidateKey w q (record { horizon = horizon; row = row })) run.shown (told_right law w q count budget run fair) in
-    let led = all_led w q budget horizon run.shown 2 short
+    let led = all_led w q budget horizon run.shown 0 2 short
     (all_both (λ (shown : Shown). IsCandidateKey w q (record { horizon = horizon; row = shown.row }) × IsShownRightly w budget horizon shown) (IsWritableShown w horizon) run.shown
     (all_both (λ (shown : Shown). IsCandidateKey w q (record { horizon = horizon; row = shown.row })) (IsShownRightly w budget horizon) run.shown right fair.each) writable) in
     let same : sections ++ flat_map (spent_text horizon) (optional run.ending) ≡ sections =
     ap (λ (end : List ℕ). sections ++ end) (none_spent horizon run.ending unspent) ∙ append-nil sections in
+    let all = length run.shown in
+    let last : Place = record { before = 0 + all; is_closed = false } in
     inr (
       refl,
       (
         led.sections,
+        last,
         led.after,
         [],
-        subst (λ (text : List ℕ). LeadsTo (general_subject w q) (λ _. Unit {0}) 2 (lines_in text) led.sections led.after []) (sym same) led.leads,
-        ap verdicts.Accepted (sym led.as_many),
+        subst (λ (text : List ℕ). LeadsTo (general_subject w q) (λ _. Unit {0}) (record { before = 0; is_closed = false }) 2 (lines_in text) led.sections last led.after []) (sym same) led.leads,
+        ap verdicts.Accepted (let e : all ≡ 0 + all = omega arith in e),
       ),
     )

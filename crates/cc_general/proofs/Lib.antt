@@ -5,5 +5,7 @@ mod EventsGrow
 mod Fairness
 mod HandingOut
 mod Opened
+mod Stepping
 mod Telling
 mod Walking
+mod Writing

@@ -19,6 +19,10 @@ abbrev pub IsWritableShown : WideDescription → (horizon : ℕ) → Shown → T
 IsWritableShown w horizon shown =
     AllByRecursion IsShort shown.row × AllByRecursion IsFormed (section_lines shown.section) × AreGoodAxioms (rival_axioms w horizon shown.row)
 
+-- all that a run told of its histories can be written
+abbrev pub IsWritableGeneral : WideDescription → Query → GeneralRun → Type 0
+IsWritableGeneral w q run = AllByRecursion (IsWritableShown w (general_horizon q run)) run.shown
+
 -- an ending is not that a search was spent
 abbrev pub IsUnspentEnding : GeneralEnding → Type 0
 IsUnspentEnding Complete = Unit {0}
@@ -34,6 +38,5 @@ IsUnspent run = IfSome run.ending IsUnspentEnding
 -- a checker accepts the log of such a run, with a section for each history
 abbrev pub GeneralLogsAreAccepted : Type 0
 GeneralLogsAreAccepted = (w : WideDescription) (q : Query) (count : Option ℕ) (budget : ℕ) (run : GeneralRun) →
-    IsFairGeneral w q count budget run → IsUnspent run → IsShort (general_horizon q run) →
-    AllByRecursion (IsWritableShown w (general_horizon q run)) run.shown →
+    IsFairGeneral w q count budget run → IsUnspent run → IsShort (general_horizon q run) → IsWritableGeneral w q run →
     IsSilentVerdict (general_subject w q) (general_log q run) (verdicts.Accepted (length run.shown))

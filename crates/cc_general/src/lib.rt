@@ -6,6 +6,7 @@ mod general;
 mod halt;
 mod phase;
 mod queue;
+mod steps;
 pub mod theorems;
 mod turn;
 mod turns;

@@ -169,8 +169,7 @@ impl<'a> GeneralTurns<'a> {
         requires { IsReady self.old phase }
         ensures { self.new ≡ record self.old { phase = phase } }
     {
-        let before = mem::replace(&mut self.phase, phase);
-        drop(before);
+        self.phase = phase;
     }
 
     // The horizon, and how many histories were told.
@@ -361,20 +360,9 @@ impl<'a> GeneralTurns<'a> {
         histories_have_no_rivals();
         match halt {
             Halt::Alone { row, lines: shown } => Ok(self.show(search, lines, row, shown)),
-            Halt::SpentOver { row, lines: over } => {
-                drop(search);
-                drop(lines);
-                Ok(self.spent(Some(row), over))
-            }
-            Halt::Exhausted => {
-                drop(search);
-                drop(lines);
-                Ok(self.exhaust())
-            }
-            Halt::SpentAmong => {
-                drop(search);
-                self.spent_among(lines)
-            }
+            Halt::SpentOver { row, lines: over } => Ok(self.spent(Some(row), over)),
+            Halt::Exhausted => Ok(self.exhaust()),
+            Halt::SpentAmong => self.spent_among(lines),
         }
     }
 
@@ -390,14 +378,8 @@ impl<'a> GeneralTurns<'a> {
         ensures over { OnErr result (IsOver self.new) }
         ensures same { IsSame self.old self.new }
     {
-        match self.walk(&mut search, &mut lines) {
-            Ok(halt) => self.tell(search, lines, halt),
-            Err(fault) => {
-                drop(search);
-                drop(lines);
-                Err(fault)
-            }
-        }
+        let halt = self.walk(&mut search, &mut lines)?;
+        self.tell(search, lines, halt)
     }
 
     // Whether as many were told as are asked for.
@@ -424,8 +406,6 @@ impl<'a> GeneralTurns<'a> {
         ensures same { IsSame self.old self.new }
     {
         if self.is_asked() {
-            drop(search);
-            drop(lines);
             let (horizon, listed) = self.place();
             return Ok(GeneralTurn::Ended(Ending::Asked { horizon, listed }));
         }

@@ -291,20 +291,14 @@ few_laws u laws count limit many more counted first few walked second rest =
 -- ---- what was made with the room for all nodes, or stopped
 
 module _ (old new : Maker) (all : List PlainGroundLaw) (was made : List GroundLaw) where
-  pub made_within : (done : Result (Unit {0}) Halt) (result : Result Laws Halt) → was ≡ [] → OnOk done (HasMade all was made old new) → IfOk result (λ laws. IsOk done × (plain_ground_laws laws ≡ map plain_ground_law made)) →
-      IfOk result (λ laws. plain_ground_laws laws ≡ all)
-  made_within done (Err halt) none put is = tt
-  made_within (Err halt) (Ok laws) none put is = absurd (false≢true is.0)
-  made_within (Ok unit) (Ok laws) none put is = is.1 ∙ put.made ∙ ap (λ (l : List GroundLaw). map plain_ground_law l ++ all) none
+  pub made_within : (laws : Laws) → was ≡ [] → HasMade all was made old new → plain_ground_laws laws ≡ map plain_ground_law made → plain_ground_laws laws ≡ all
+  made_within laws none put is = is ∙ put.made ∙ ap (λ (l : List GroundLaw). map plain_ground_law l ++ all) none
 
-  pub unrefused_within : (done : Result (Unit {0}) Halt) (result : Result Laws Halt) → old.room ≡ limit_number limits.GroundNodes → OnOk done (HasMade all was made old new) →
-      IfOk result (λ laws. IsOk done × (plain_ground_laws laws ≡ map plain_ground_law made)) → OnOk result (node_refusal (nodes_in all) ≡ None)
-  unrefused_within done (Err halt) limit put is = tt
-  unrefused_within (Err halt) (Ok laws) limit put is = absurd (false≢true is.0)
-  unrefused_within (Ok unit) (Ok laws) limit put is = few_nodes (nodes_in all) old.room (omega (arith, put.room)) limit
+  pub unrefused_within : old.room ≡ limit_number limits.GroundNodes → HasMade all was made old new → node_refusal (nodes_in all) ≡ None
+  unrefused_within limit put = few_nodes (nodes_in all) old.room (omega (arith, put.room)) limit
 
-pub refused_within : (count room : ℕ) (done : Result (Unit {0}) Halt) (result : Result Laws Halt) → room ≡ limit_number limits.GroundNodes → IfErr done (LacksRoom count room) → IfErr result (λ halt. IsErrAnd done (λ it. it ≡ halt)) →
+pub refused_within : (count room : ℕ) (stop : Halt) (result : Result Laws Halt) → room ≡ limit_number limits.GroundNodes → LacksRoom count room stop → IsErrAnd result (λ halt. halt ≡ stop) →
     IfErr result (λ halt. IsRefusedBy (node_refusal count) (fault_by halt))
-refused_within count room done (Ok laws) limit lacks is = tt
-refused_within count room (Ok unit) (Err halt) limit lacks is = absurd is
-refused_within count room (Err stop) (Err halt) limit lacks is = subst (λ (h : Halt). IsRefusedBy (node_refusal count) (fault_by h)) is (let ended : Result (Unit {0}) Halt = Err stop in many_nodes count room ended lacks limit)
+refused_within count room stop (Ok laws) limit lacks is = tt
+refused_within count room stop (Err halt) limit lacks is =
+    subst (λ (h : Halt). IsRefusedBy (node_refusal count) (fault_by h)) (sym is) (let ended : Result (Unit {0}) Halt = Err stop in many_nodes count room ended lacks limit)

@@ -51,12 +51,6 @@ relation_is whole sign l r (inl is) same = ap (λ (s : Sign). formula_of s (plai
 relation_is whole sign l r (inr (inl is)) same = ap (λ (s : Sign). formula_of s (plain_term l) (plain_term r)) (same ∙ ap (λ f. sign_of (plain_formula f)) is) ∙ sym (ap plain_formula is)
 relation_is whole sign l r (inr (inr is)) same = ap (λ (s : Sign). formula_of s (plain_term l) (plain_term r)) (same ∙ ap (λ f. sign_of (plain_formula f)) is) ∙ sym (ap plain_formula is)
 
--- ---- what is negated
-
-pub negated_on : {E : Type 0} (P : Type 0) (inner result : Result Bool E) → IfOk result (λ opposite. inner ≡ Ok (not opposite)) → OnOk inner P → OnOk result P
-negated_on P inner (Err error) is it = tt
-negated_on P inner (Ok opposite) is it = subst (λ (r : Result Bool _). OnOk r P) is it
-
 -- ---- brackets
 
 -- with the variable bound to the object

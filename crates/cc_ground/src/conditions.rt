@@ -71,16 +71,6 @@ fn are_so(
     stand(sign, left, right)
 }
 
-/// The opposite of a truth.
-fn negated(passed: Result<bool, OutOfMemory>) -> Result<bool, OutOfMemory>
-    ensures { IfOk result (λ opposite. passed ≡ Ok (not opposite)) }
-{
-    match passed {
-        Ok(passed) => Ok(!passed),
-        Err(error) => Err(error),
-    }
-}
-
 /// Whether a formula is true for each object of a sort, or, where that is asked, for one.
 #[cycle(passing)]
 fn bracket_passes(
@@ -123,7 +113,7 @@ fn second_passes(
     match (joint, first) {
         (Joint::Both, false) => Ok(false),
         (Joint::Either, true) | (Joint::Implies, false) => Ok(true),
-        (Joint::Same, false) => negated(passes(table, env, second)),
+        (Joint::Same, false) => Ok(!passes(table, env, second)?),
         (Joint::Both | Joint::Implies | Joint::Same, true) | (Joint::Either, false) => {
             passes(table, env, second)
         }
@@ -146,7 +136,7 @@ pub(crate) fn passes(
         Formula::False => Ok(false),
         Formula::Equal(left, right) | Formula::Less(left, right) | Formula::AtMost(left, right) =>
             are_so(table, env, sign_in(formula), left, right),
-        Formula::Not(inner) => negated(passes(table, env, inner)),
+        Formula::Not(inner) => Ok(!passes(table, env, inner)?),
         Formula::Both(left, right)
         | Formula::Either(left, right)
         | Formula::Implies(left, right)

@@ -1,7 +1,7 @@
 //! The ground laws of base laws.
-ghost use Rattle.std.specs.Prelude.{◌≡◌, ◌+◌, ◌∷◌, [], List as Items, None, Some, length, map, IfOk, IfErr, IsErrAnd, IsOk, OnOk};
+ghost use Rattle.std.specs.Prelude.{◌≡◌, ◌+◌, ◌∷◌, [], List as Items, None, Some, length, map, IfOk, IfErr, OnOk};
 ghost use Rattle.std.specs.Option.{option_map};
-ghost use Rattle.cc_arena.specs.GroundViews.{plain_ground_law, plain_ground_laws};
+ghost use Rattle.cc_arena.specs.GroundViews.{plain_ground_laws};
 ghost use Rattle.cc_arena.specs.Meanings.{MeanLaws};
 ghost use Rattle.cc_defs.specs.Conditions.{AreGroundLaws};
 ghost use Rattle.cc_defs.specs.Declarations.{Declaration, symbols};
@@ -213,18 +213,6 @@ impl<'t> Maker<'t> {
     }
 }
 
-/// The laws that were made, if nothing stopped that.
-fn laws_made<'a>(made: Vec<GroundLaw<'a>>, done: Result<(), Halt>) -> Result<Laws<'a>, Halt>
-    ensures made { IfOk result (λ laws.
-        IsOk done × (plain_ground_laws laws ≡ map plain_ground_law made.entry.items)) }
-    ensures stopped { IfErr result (λ halt. IsErrAnd done (λ it. it ≡ halt)) }
-{
-    match done {
-        Ok(()) => Ok(Laws::of(made)),
-        Err(halt) => Err(halt),
-    }
-}
-
 /// The ground laws of base laws, where there is room for their nodes; the actions are the Boolean ones.
 fn laws_within<'a>(
     alloc: Global,
@@ -244,8 +232,8 @@ fn laws_within<'a>(
 {
     let mut made = Vec::new(alloc);
     let mut maker = Maker::new(alloc, table, sig, LimitAt::GroundNodes.number() as usize);
-    let done = maker.add_all(alloc, terms, &mut made, actions, laws);
-    laws_made(made, done)
+    maker.add_all(alloc, terms, &mut made, actions, laws)?;
+    Ok(Laws::of(made))
 }
 
 /// The ground laws of base laws, or exactly the refusal of too many nodes; the actions are the Boolean ones.

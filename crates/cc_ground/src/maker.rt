@@ -69,7 +69,6 @@ pub(crate) fn narrow(number: usize) -> Result<u32, OutOfMemory>
 }
 
 /// Makes the nodes of terms.
-#[derive(Drop)]
 pub(crate) struct Maker<'t> {
     pub(crate) table: &'t Table,
     pub(crate) sig: &'t Sig,
@@ -79,6 +78,19 @@ pub(crate) struct Maker<'t> {
     pub(crate) nodes: Vec<Node>,
     /// How many nodes may still be made.
     pub(crate) room: usize,
+}
+
+// By hand, so that whoever lets one go has one call there, and not a drop for each field.
+impl<'t> Drop for Maker<'t> {
+    fn drop(self) {
+        let Maker {
+            table: _,
+            sig: _,
+            env: _,
+            nodes: _,
+            room: _,
+        } = self;
+    }
 }
 
 impl<'t> Maker<'t> {

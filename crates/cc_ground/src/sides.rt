@@ -87,11 +87,10 @@ fn meant_with(
         (environment_of env.now) symbol (terms_of (map plain_term terms.now))) }
 {
     let mut args = Vec::new(alloc);
-    match add_arguments(table, env, terms, &mut args) {
-        Ok(true) => Ok(sig.ground_number(symbol, &args)),
-        Ok(false) => Ok(None),
-        Err(error) => Err(error),
+    if add_arguments(table, env, terms, &mut args)? {
+        return Ok(sig.ground_number(symbol, &args));
     }
+    Ok(None)
 }
 
 /// The number of the ground constant that a constant with its arguments stands for. One argument takes no memory.

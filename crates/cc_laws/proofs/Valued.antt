@@ -1,5 +1,5 @@
 -- The law about each value of a constant, by what it is made of.
-use Rattle.std.proofs.Common.{◌≡◌, ◌∙◌, ℕ, ◌+◌, List, [], ◌∷◌, ◌++◌, length, map, sym, ap, Result, Ok, IfOk, OnOk, subst}
+use Rattle.std.proofs.Common.{◌≡◌, ◌∙◌, ℕ, ◌+◌, List, [], ◌∷◌, ◌++◌, length, map, sym, ap}
 use Rattle.std.specs.Prelude.{Option}
 use Rattle.cc_defs.specs.declared.formula.Term as kept
 use Rattle.cc_defs.specs.declared.law.Range.{Range}
@@ -13,11 +13,10 @@ use Rattle.cc_laws.specs.Resolving.{Binding, numbered_from}
 use Rattle.cc_laws.specs.Views.{row_terms, inside, scope_of}
 use Rattle.cc_laws.specs.Vocabulary.{Vocabulary}
 use Rattle.cc_laws.proofs.Rows.{listed_rows}
-use Rattle.std.specs.Global.{Box, Vec}
+use Rattle.std.specs.Global.{Vec}
 use Rattle.cc_defs.specs.Trees.{PlainTree}
 use Rattle.cc_laws.specs.declared.names.Binding.{Binding as KeptBinding}
 use Rattle.cc_laws.specs.declared.names.Names.{Names}
-use Rattle.cc_laws.proofs.WithMade.{in_box}
 use Rattle.cc_defs.specs.declared.formula.Formula.{Formula as Kept}
 
 abbrev pub frame_with : List Range → Formula → List Binding → ℕ → ℕ → ℕ → words.Frame
@@ -49,28 +48,21 @@ value_made v over pushed test scope next file line p symbol args given variable 
 
 -- ---- what the base laws of a law, or of a constant, have in common
 
-module _ {E : Type 0} where
-  pub law_framed : (file line : ℕ) (v : Vocabulary) (variables : List ℕ) (tree : Option PlainTree) (old new : Names) (made : Result (Vec Range) E) (test : Result Kept E) (boxed : Result (Box Kept) E) (over : Vec Range) (box : Box Kept) →
-      scope_of old ≡ numbered_from 0 variables → old.next ≡ length variables + 1 → IfOk made (λ all. all.items ≡ words.sort_ranges v variables) →
-      IfOk test (λ one. plain_formula one ≡ words.part v (scope_of old) old.next tree) → OnOk test (new.bindings.items ≡ old.bindings.items) → OnOk test (new.next ≡ old.next + words.part_brackets tree) →
-      IfOk boxed (λ place. test ≡ Ok place.value) → made ≡ Ok over → boxed ≡ Ok box →
-      frame_with over.items (plain_formula box.value) (scope_of new) new.next file line ≡ words.law_frame file v line variables tree
-  law_framed file line v variables tree old new made test boxed over box here first all one kept next put is placed =
-      let scope = numbered_from 0 variables in
-      let formula = words.part v scope (length variables + 1) tree in
-      let tested : test ≡ Ok box.value = subst (λ r. IfOk r (λ place. test ≡ Ok place.value)) placed put in
-      ap (λ (w : List Range). frame_with w (plain_formula box.value) (scope_of new) new.next file line) (subst (λ r. IfOk r (λ all. all.items ≡ words.sort_ranges v variables)) is all)
-      ∙ ap (λ (w : Formula). frame_with (words.sort_ranges v variables) w (scope_of new) new.next file line)
-      (subst (λ r. IfOk r (λ one. plain_formula one ≡ words.part v (scope_of old) old.next tree)) tested one ∙ ap (λ (s : List Binding). words.part v s old.next tree) here ∙ ap (λ (n : ℕ). words.part v scope n tree) first)
-      ∙ ap (λ (w : List Binding). frame_with (words.sort_ranges v variables) formula w new.next file line) (ap (inside []) (subst (λ r. OnOk r (new.bindings.items ≡ old.bindings.items)) tested kept) ∙ here)
-      ∙ ap (λ (n : ℕ). frame_with (words.sort_ranges v variables) formula scope n file line)
-      (subst (λ r. OnOk r (new.next ≡ old.next + words.part_brackets tree)) tested next ∙ ap (λ (n : ℕ). n + words.part_brackets tree) first)
+pub law_framed : (file line : ℕ) (v : Vocabulary) (variables : List ℕ) (tree : Option PlainTree) (old new : Names) (over : Vec Range) (test : Kept) →
+    scope_of old ≡ numbered_from 0 variables → old.next ≡ length variables + 1 → over.items ≡ words.sort_ranges v variables →
+    plain_formula test ≡ words.part v (scope_of old) old.next tree → new.bindings.items ≡ old.bindings.items → new.next ≡ old.next + words.part_brackets tree →
+    frame_with over.items (plain_formula test) (scope_of new) new.next file line ≡ words.law_frame file v line variables tree
+law_framed file line v variables tree old new over test here first all one kept next =
+    let scope = numbered_from 0 variables in
+    let formula = words.part v scope (length variables + 1) tree in
+    ap (λ (w : List Range). frame_with w (plain_formula test) (scope_of new) new.next file line) all
+    ∙ ap (λ (w : Formula). frame_with (words.sort_ranges v variables) w (scope_of new) new.next file line)
+    (one ∙ ap (λ (s : List Binding). words.part v s old.next tree) here ∙ ap (λ (n : ℕ). words.part v scope n tree) first)
+    ∙ ap (λ (w : List Binding). frame_with (words.sort_ranges v variables) formula w new.next file line) (ap (inside []) kept ∙ here)
+    ∙ ap (λ (n : ℕ). frame_with (words.sort_ranges v variables) formula scope n file line) (next ∙ ap (λ (n : ℕ). n + words.part_brackets tree) first)
 
-  pub shape_framed : (file line : ℕ) (sorts : List ℕ) (bindings : List KeptBinding) (made : Result (Vec Range) E) (test : Result Kept E) (boxed : Result (Box Kept) E) (over : Vec Range) (box : Box Kept) →
-      bindings ≡ [] → IfOk made (λ all. all.items ≡ map ranges.Sort sorts) → IfOk test (λ one. plain_formula one ≡ resolved.Truth) →
-      IfOk boxed (λ place. test ≡ Ok place.value) → made ≡ Ok over → boxed ≡ Ok box →
-      frame_with over.items (plain_formula box.value) (inside [] bindings) (length sorts + 1) file line ≡ words.shape_frame file line sorts
-  shape_framed file line sorts bindings made test boxed over box none all one put is placed =
-      ap (λ (w : List Range). frame_with w (plain_formula box.value) (inside [] bindings) (length sorts + 1) file line) (subst (λ r. IfOk r (λ all. all.items ≡ map ranges.Sort sorts)) is all)
-      ∙ ap (λ (w : Formula). frame_with (map ranges.Sort sorts) w (inside [] bindings) (length sorts + 1) file line) (in_box (λ (one : Kept). plain_formula one ≡ resolved.Truth) test boxed box placed put one)
-      ∙ ap (λ (w : List KeptBinding). frame_with (map ranges.Sort sorts) resolved.Truth (inside [] w) (length sorts + 1) file line) none
+pub shape_framed : (file line : ℕ) (sorts : List ℕ) (bindings : List KeptBinding) (over : Vec Range) → bindings ≡ [] → over.items ≡ map ranges.Sort sorts →
+    frame_with over.items resolved.Truth (inside [] bindings) (length sorts + 1) file line ≡ words.shape_frame file line sorts
+shape_framed file line sorts bindings over none all =
+    ap (λ (w : List Range). frame_with w resolved.Truth (inside [] bindings) (length sorts + 1) file line) all
+    ∙ ap (λ (w : List KeptBinding). frame_with (map ranges.Sort sorts) resolved.Truth (inside [] w) (length sorts + 1) file line) none

@@ -2,7 +2,7 @@
 use Rattle.std.proofs.Common.{◌≡◌, ◌∙◌, ℕ, List, Option, None, Result, Ok, Err, IfOk, map, sym, ap, subst}
 use Rattle.std.specs.Prelude.{IfErr}
 use Rattle.std.specs.Global.{Vec}
-use Rattle.std.specs.Result.{MatchResult}
+use Rattle.std.specs.Result.{IsErrAnd, MatchResult}
 use Rattle.cc_defs.specs.declared.refusal.Fault.{Fault}
 use Rattle.cc_defs.specs.declared.refusal.Fault.TheVariants as faults
 use Rattle.cc_defs.specs.declared.refusal.Refusal.{Refusal}
@@ -29,13 +29,15 @@ pub given_fault : {X : Type 0} (refusal : Option Refusal) (result : Result X Fau
 given_fault refusal (Ok x) is = tt
 given_fault refusal (Err fault) is = subst (IsRefusedBy refusal) (sym is) tt
 
--- behind a check that found nothing, and at one that found a fault
-pub held : {X Y E F : Type 0} (P : Type 0) (passed : Result Y E) (nothing : Y) (result : Result X F) → passed ≡ Ok nothing → IfOk passed (λ it. P) → IfOk result (λ made. P)
-held P passed nothing (Ok x) is so = subst (λ r. IfOk r (λ it. P)) is so
-held P passed nothing (Err fault) is so = tt
+-- behind a check that found nothing
+pub held : {X F : Type 0} (P : Type 0) (result : Result X F) → P → IfOk result (λ made. P)
+held P (Ok x) so = so
+held P (Err fault) so = tt
 
-pub stopped : {Y : Type 0} (refusal : Option Refusal) (passed : Result Y Fault) (fault : Fault) → passed ≡ Err fault → IfErr passed (IsRefusedBy refusal) → IsRefusedBy refusal fault
-stopped refusal passed fault is by = subst (λ r. IfErr r (IsRefusedBy refusal)) is by
+-- at the exit of a call that did not succeed
+pub errs : {X E : Type 0} (P : E → Type 0) (result : Result X E) (error : E) → IsErrAnd result (λ given. given ≡ error) → P error → IfErr result P
+errs P (Ok x) error is so = tt
+errs P (Err given) error is so = subst P (sym is) so
 
 -- as a list, by the declarations
 pub listed_so : {X Z : Type 0} (plain : X → Z) (refusal : Option Refusal) (file line : ℕ) (fault : Option ℕ) (laws whole : List Z) (made : Result (Vec X) Fault) (result : Result (List X) Fault) →

@@ -173,7 +173,7 @@ persistence_of kept_persistences.Rigid = Rigid
 abbrev pub frame_of : KeptFrame → Frame
 frame_of frame = record {
   ranges = frame.ranges.items;
-  test = plain_formula frame.test.value;
+  test = plain_formula frame.test;
   scope = scope_of frame.names;
   next = frame.names.next;
   file = frame.file;

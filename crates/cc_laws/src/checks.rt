@@ -19,7 +19,6 @@ use crate::misfits::term_misfits;
 use crate::variables::{add_free, add_unbound, firsts, free as free_in, some_is_new};
 use crate::walk::{Check, formula_fails};
 use cc_defs::{Fault, LawTree, OutOfMemory, Refusal, TermTree, Tree};
-use cc_results::{both, filled};
 use cc_sorts::Table;
 use std::alloc::Global;
 
@@ -247,9 +246,7 @@ pub(crate) fn law_variables(
 {
     let mut found = Vec::new(alloc);
     let mut bound = Vec::new(alloc);
-    let added = add_law(law, table, &mut bound, &mut found);
-    drop(bound);
-    let found = filled(found, added)?;
+    add_law(law, table, &mut bound, &mut found)?;
     firsts(alloc, &found)
 }
 
@@ -267,8 +264,8 @@ fn has_unbound<'t, 's>(
     let Some(test) = test else {
         return Ok(false);
     };
-    let variables = law_variables(alloc, law, table);
-    let (variables, used) = both(variables, free_in(alloc, test, table))?;
+    let variables = law_variables(alloc, law, table)?;
+    let used = free_in(alloc, test, table)?;
     Ok(some_is_new(&used, &variables))
 }
 

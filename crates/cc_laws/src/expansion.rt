@@ -33,7 +33,6 @@ use cc_defs::{
     BaseLaw, BaseLaws, ConstItem, Fault, Formula, Head, KindTree, KindWord, LawTree, OutOfMemory,
     Part, Range, Statement, Term, TermTree, Tree,
 };
-use cc_results::{both, boxed, put_made};
 use cc_sorts::Table;
 use std::alloc::Global;
 
@@ -113,9 +112,8 @@ pub(crate) fn law_frame(
         frame_of made ≡ frame_from (vocabulary_of table.now) source.now) }
 {
     let mut names = names_of(alloc, source.variables)?;
-    let test = written_test(alloc, source.test, table, &mut names);
-    let ranges = sort_ranges(alloc, table, source.variables);
-    let (ranges, test) = both(ranges, boxed(alloc, test))?;
+    let test = written_test(alloc, source.test, table, &mut names)?;
+    let ranges = sort_ranges(alloc, table, source.variables)?;
     Ok(Frame {
         ranges,
         test,
@@ -176,18 +174,15 @@ fn law_parts(
         (names.old.next + words.part_brackets (plain_caused law.now later).body))
         (plain_caused law.now later).after)) }
 {
-    let body = boxed(alloc, written_body(alloc, law, table, names, later))?;
+    let body = written_body(alloc, law, table, names, later)?;
     if denied {
         return Ok(Parts {
             body: Formula::True,
-            after: Some(Box::into_inner(body)),
+            after: Some(body),
         });
     }
-    let after = boxed(alloc, resolve_after(alloc, law, table, names, later))?;
-    Ok(Parts {
-        body: Box::into_inner(body),
-        after: Box::into_inner(after),
-    })
+    let after = resolve_after(alloc, law, table, names, later)?;
+    Ok(Parts { body, after })
 }
 
 /// The base law of a part of a head.
@@ -251,10 +246,7 @@ fn split(
     let denying = denies(law, table, later);
     let mut made = Vec::with_capacity(alloc, heads.len())?;
     for head in heads {
-        put_made(
-            &mut made,
-            law_for(alloc, law, table, source, later, denying, head),
-        )?;
+        made.push(law_for(alloc, law, table, source, later, denying, head)?)?;
     }
     Ok(made)
 }
@@ -375,15 +367,14 @@ fn shape_frame(alloc: Global, file: u32, line: u32, sorts: &[u32]) -> Result<Fra
     requires { length sorts.now < 4000000000 }
     ensures { IfOk result (λ made. frame_of made ≡ words.shape_frame file line sorts.now) }
 {
-    let test = boxed(alloc, Ok(Formula::True));
-    let (ranges, test) = both(ranges_over(alloc, sorts), test)?;
+    let ranges = ranges_over(alloc, sorts)?;
     let names = Names {
         bindings: Vec::new(alloc),
         next: sorts.len() as u32 + 1,
     };
     Ok(Frame {
         ranges,
-        test,
+        test: Formula::True,
         names,
         file,
         line,
@@ -405,8 +396,8 @@ fn shape_law(
         ≡ words.value_law (vocabulary_of table.now) (words.shape_frame file line sorts.now)
         (persistence_of persistence) number (words.places 0 sorts.now)) }
 {
-    let frame = shape_frame(alloc, file, line, sorts);
-    let (args, frame) = both(places(alloc, sorts), frame)?;
+    let args = places(alloc, sorts)?;
+    let frame = shape_frame(alloc, file, line, sorts)?;
     value_law(alloc, table, frame, persistence, number, args)
 }
 
@@ -433,9 +424,8 @@ fn denied_attribute(
         (resolved.Not (alone (resolved.Constant action (words.places 0 sorts.now)))))) }
 {
     let done = equation(alloc, action, sorts, Term::Object(1))?;
-    let denied = boxed(alloc, negated(alloc, done));
-    let none = boxed(alloc, equation(alloc, number, sorts, Term::Nothing));
-    let (none, denied) = both(none, denied)?;
+    let denied = Box::new(alloc, negated(alloc, done)?)?;
+    let none = Box::new(alloc, equation(alloc, number, sorts, Term::Nothing)?)?;
     negated(alloc, Formula::Same(none, denied))
 }
 
@@ -454,9 +444,8 @@ fn attribute_law(
         plain_base_law made ≡ words.attribute_law (vocabulary_of table.now)
         (words.shape_frame file line sorts.now) number action (words.places 0 sorts.now)) }
 {
-    let frame = shape_frame(alloc, file, line, sorts);
-    let differ = denied_attribute(alloc, number, action, sorts);
-    let (frame, differ) = both(frame, differ)?;
+    let differ = denied_attribute(alloc, number, action, sorts)?;
+    let frame = shape_frame(alloc, file, line, sorts)?;
     let parts = Parts {
         body: Formula::True,
         after: Some(differ),
@@ -494,8 +483,9 @@ fn add_word_laws(
 {
     match persistence_for(word) {
         Some(persistence) => {
-            let law = shape_law(alloc, file, table, line, persistence, number, sorts);
-            put_made(laws, law)
+            let law = shape_law(alloc, file, table, line, persistence, number, sorts)?;
+            laws.push(law)?;
+            Ok(())
         }
         None => Ok(()),
     }
@@ -521,10 +511,9 @@ fn add_attribute_laws(
         return Ok(());
     };
     let persistence = Persistence::Exogenous;
-    let law = shape_law(alloc, file, table, line, persistence, number, sorts);
-    put_made(laws, law)?;
-    let law = attribute_law(alloc, file, table, line, number, action, sorts);
-    put_made(laws, law)
+    laws.push(shape_law(alloc, file, table, line, persistence, number, sorts)?)?;
+    laws.push(attribute_law(alloc, file, table, line, number, action, sorts)?)?;
+    Ok(())
 }
 
 /// Adds the base laws of a constant of a kind, by its name.
@@ -612,10 +601,8 @@ fn expand_law<'t, 's>(
     ensures refused { IfErr result (IsRefusedBy (refused_if file line (least (law_faults
         (vocabulary_of table.now) (plain_law law.now) (optional (option_map boxed_tree test.now)))))) }
 {
-    match passed(law_fault(alloc, law, test, table), file, line) {
-        Ok(()) => given(laws_in(alloc, law, test, file, table, line)),
-        Err(fault) => Err(fault),
-    }
+    passed(law_fault(alloc, law, test, table), file, line)?;
+    given(laws_in(alloc, law, test, file, table, line))
 }
 
 /// The base laws of a statement's part, where it has no fault: a law alone may have one.

@@ -13,7 +13,6 @@ use crate::meaning::{Meaning, meaning_of_term};
 use crate::names::Names;
 use crate::resolving::{resolve_sum, resolve_term};
 use cc_defs::{Head, List, OutOfMemory, SumTree, Term, TermTree, Tree};
-use cc_results::put_last;
 use cc_sorts::Table;
 use std::alloc::Global;
 
@@ -68,7 +67,7 @@ fn add_bare(
         (vocabulary_of table.now) (scope_of names.now) (bare (plain_term term.now)))) }
 {
     if is_falsity_term(term, table) {
-        put_last(found, Head::Falsity)?;
+        found.push(Head::Falsity)?;
         return Ok(true);
     }
     if is_boolean_term(term, table) {

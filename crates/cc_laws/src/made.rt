@@ -4,7 +4,6 @@ ghost use Rattle.std.specs.Result.{MatchResult};
 ghost use Rattle.cc_defs.specs.declared.refusal.Fault.TheVariants as faults;
 
 use cc_defs::{Fault, List, OutOfMemory};
-use cc_results::{filled, put_last};
 use std::alloc::Global;
 
 /// What was made, as a part that is there.
@@ -32,7 +31,7 @@ pub(crate) fn some_or<T: Drop>(
 pub(crate) fn gone<T: Drop>(made: Result<T, OutOfMemory>) -> Result<(), OutOfMemory>
     ensures { MatchResult made (λ value. IsOk result) (λ error. IsErr result) }
 {
-    drop(made?);
+    made?;
     Ok(())
 }
 
@@ -41,8 +40,8 @@ pub(crate) fn only<T: Drop>(alloc: Global, item: T) -> Result<Vec<T>, OutOfMemor
     ensures { IfOk result (λ list. list.items ≡ item ∷ []) }
 {
     let mut list = Vec::new(alloc);
-    let put = put_last(&mut list, item);
-    filled(list, put)
+    list.push(item)?;
+    Ok(list)
 }
 
 /// What was made, where a fault may be told in its place.
@@ -58,8 +57,5 @@ pub(crate) fn given<T: Drop>(made: Result<T, OutOfMemory>) -> Result<T, Fault>
 pub(crate) fn listed<T: Drop>(made: Result<Vec<T>, Fault>) -> Result<List<T>, Fault>
     ensures { MatchResult made (λ items. result ≡ Ok items.items) (λ fault. result ≡ Err fault) }
 {
-    match made {
-        Ok(items) => Ok(List::of(items)),
-        Err(fault) => Err(fault),
-    }
+    Ok(List::of(made?))
 }

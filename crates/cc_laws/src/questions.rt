@@ -24,7 +24,6 @@ use crate::walk::{Check, formula_fails};
 use cc_defs::{
     At, Condition, Fault, Formula, List, Name, OutOfMemory, Part, Query, QueryItem, Statement, Tree,
 };
-use cc_results::{boxed, put_made};
 use cc_sorts::Table;
 use std::alloc::Global;
 
@@ -230,8 +229,8 @@ fn and_next(
     ensures next { OnOk result
         (names.new.next ≡ names.old.next + resolving.brackets (plain_tree formula.now)) }
 {
-    let made = boxed(alloc, Ok(made))?;
-    let next = boxed(alloc, resolve(alloc, formula, table, names))?;
+    let made = Box::new(alloc, made)?;
+    let next = Box::new(alloc, resolve(alloc, formula, table, names)?)?;
     Ok(Formula::Both(made, next))
 }
 
@@ -303,10 +302,7 @@ fn conditions_of(
             parts,
         } = item
         {
-            put_made(
-                &mut made,
-                condition(alloc, parts.items(), table, names, *at),
-            )?;
+            made.push(condition(alloc, parts.items(), table, names, *at)?)?;
         }
     }
     Ok(made)
@@ -380,10 +376,8 @@ fn ask(
     ensures refused { IfErr result (IsRefusedBy (refused_if file line (least
         (words.query_faults (vocabulary_of table.now) (map plain_query_item items.now))))) }
 {
-    match passed(query_fault(alloc, items, table), file, line) {
-        Ok(()) => given(query_of(alloc, items, file, table, line)),
-        Err(fault) => Err(fault),
-    }
+    passed(query_fault(alloc, items, table), file, line)?;
+    given(query_of(alloc, items, file, table, line))
 }
 
 /// What a query asks, at the table as it stands. Refuses, at the statement's line, the least number of a fault: a label, a

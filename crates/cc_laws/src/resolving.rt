@@ -13,7 +13,6 @@ use crate::meaning::{Meaning, meaning_of};
 use crate::names::{Binding, Names};
 use crate::sums::{Comparison, comparison_in};
 use cc_defs::{Formula, OutOfMemory, Piece, SumTree, Term, TermTree, Tree};
-use cc_results::{both, boxed, put_made};
 use cc_sorts::Table;
 use std::alloc::Global;
 
@@ -59,7 +58,7 @@ pub(crate) fn resolve_term(
 {
     let mut args = Vec::with_capacity(alloc, term.args.len())?;
     for argument in &term.args {
-        put_made(&mut args, resolve_sum(alloc, argument, table, names))?;
+        args.push(resolve_sum(alloc, argument, table, names)?)?;
     }
     Ok(term_meant(names, meaning_of(table, term.name), args))
 }
@@ -77,8 +76,8 @@ pub(crate) fn resolve_sum(
 {
     let mut made = resolve_piece(alloc, &sum.first, table, names)?;
     for addend in &sum.rest {
-        let piece = resolve_piece(alloc, &addend.piece, table, names);
-        let (first, second) = both(boxed(alloc, Ok(made)), boxed(alloc, piece))?;
+        let first = Box::new(alloc, made)?;
+        let second = Box::new(alloc, resolve_piece(alloc, &addend.piece, table, names)?)?;
         made = joined(first, addend.minus, second);
     }
     Ok(made)
@@ -199,9 +198,8 @@ fn resolve_compared<'t, 's>(
         (words.resolve_sum (vocabulary_of table.now) (scope_of names.now) (plain_sum left.now))
         (words.resolve_sum (vocabulary_of table.now) (scope_of names.now) (plain_sum right.now))) }
 {
-    let left = resolve_sum(alloc, left, table, names);
-    let right = resolve_sum(alloc, right, table, names);
-    let (left, right) = both(left, right)?;
+    let left = resolve_sum(alloc, left, table, names)?;
+    let right = resolve_sum(alloc, right, table, names)?;
     compared(alloc, comparison, left, right)
 }
 
@@ -231,11 +229,11 @@ pub(crate) fn resolve_not(
     ensures next { OnOk result
         (names.new.next ≡ names.old.next + words.brackets (plain_tree inner.now)) }
 {
-    let inner = boxed(alloc, resolve(alloc, inner, table, names))?;
+    let inner = Box::new(alloc, resolve(alloc, inner, table, names)?)?;
     Ok(Formula::Not(inner))
 }
 
-/// Two formulas, joined. The first is put into its box before the second is made.
+/// Two formulas, joined.
 #[cycle(resolve)]
 #[inline(never)]
 pub(crate) fn resolve_two<'t, 's>(
@@ -254,8 +252,8 @@ pub(crate) fn resolve_two<'t, 's>(
     ensures next { OnOk result (names.new.next ≡ names.old.next + (words.brackets
         (plain_tree first.now) + words.brackets (plain_tree second.now))) }
 {
-    let first = boxed(alloc, resolve(alloc, first, table, names))?;
-    let second = boxed(alloc, resolve(alloc, second, table, names))?;
+    let first = Box::new(alloc, resolve(alloc, first, table, names)?)?;
+    let second = Box::new(alloc, resolve(alloc, second, table, names)?)?;
     Ok(match joint {
         Joint::Both => Formula::Both(first, second),
         Joint::Either => Formula::Either(first, second),
@@ -281,7 +279,7 @@ fn resolve_inside(
         (names.new.next ≡ names.old.next + words.brackets (plain_tree inner.now)) }
 {
     names.bindings.push(binding)?;
-    let made = boxed(alloc, resolve(alloc, inner, table, names))?;
+    let made = Box::new(alloc, resolve(alloc, inner, table, names)?)?;
     names.bindings.pop();
     Ok(made)
 }

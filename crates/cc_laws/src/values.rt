@@ -11,7 +11,6 @@ ghost use Rattle.cc_laws.specs.Vocabulary.{vocabulary_of};
 use crate::classes::class;
 use crate::names::Names;
 use cc_defs::{BaseLaw, Formula, Head, Law, List, OutOfMemory, Range, Term};
-use cc_results::{both, boxed, put_made};
 use cc_sorts::Table;
 use std::alloc::Global;
 
@@ -27,11 +26,11 @@ pub(crate) enum Persistence {
 }
 
 /// What the base laws of a statement have in common: what their variables go over, their test, what their formulas see
-/// behind the test, and their place. The test has a box, so that it is let go by one call wherever a step may end.
+/// behind the test, and their place.
 #[derive(Drop)]
 pub(crate) struct Frame {
     pub(crate) ranges: Vec<Range>,
-    pub(crate) test: Box<Formula>,
+    pub(crate) test: Formula,
     pub(crate) names: Names,
     pub(crate) file: u32,
     pub(crate) line: u32,
@@ -56,7 +55,7 @@ pub(crate) fn base_law(table: &Table, frame: Frame, head: Head, parts: Parts) ->
         head,
         body: parts.body,
         after: parts.after,
-        test: Box::into_inner(frame.test),
+        test: frame.test,
         kind,
         file: frame.file,
         line: frame.line,
@@ -71,7 +70,7 @@ pub(crate) fn copy_term(alloc: Global, term: &Term) -> Result<Term, OutOfMemory>
         Term::Constant { symbol, args } => {
             let mut copies = Vec::with_capacity(alloc, args.len())?;
             for argument in args {
-                put_made(&mut copies, copy_term(alloc, argument))?;
+                copies.push(copy_term(alloc, argument)?)?;
             }
             Ok(Term::Constant {
                 symbol: *symbol,
@@ -83,15 +82,13 @@ pub(crate) fn copy_term(alloc: Global, term: &Term) -> Result<Term, OutOfMemory>
         Term::Nothing => Ok(Term::Nothing),
         Term::Number(number) => Ok(Term::Number(*number)),
         Term::Plus(first, second) => {
-            let first = boxed(alloc, copy_term(alloc, first));
-            let second = boxed(alloc, copy_term(alloc, second));
-            let (first, second) = both(first, second)?;
+            let first = Box::new(alloc, copy_term(alloc, first)?)?;
+            let second = Box::new(alloc, copy_term(alloc, second)?)?;
             Ok(Term::Plus(first, second))
         }
         Term::Minus(first, second) => {
-            let first = boxed(alloc, copy_term(alloc, first));
-            let second = boxed(alloc, copy_term(alloc, second));
-            let (first, second) = both(first, second)?;
+            let first = Box::new(alloc, copy_term(alloc, first)?)?;
+            let second = Box::new(alloc, copy_term(alloc, second)?)?;
             Ok(Term::Minus(first, second))
         }
     }
@@ -103,7 +100,7 @@ pub(crate) fn copy_terms(alloc: Global, terms: &[Term]) -> Result<Vec<Term>, Out
 {
     let mut copies = Vec::with_capacity(alloc, terms.len())?;
     for term in terms {
-        put_made(&mut copies, copy_term(alloc, term))?;
+        copies.push(copy_term(alloc, term)?)?;
     }
     Ok(copies)
 }

@@ -8,7 +8,6 @@ ghost use Rattle.cc_laws.specs.Vocabulary.{vocabulary_of};
 
 use crate::meaning::{Meaning, meaning_of};
 use cc_defs::{OutOfMemory, Piece, SumTree, TermTree, Tree};
-use cc_results::filled;
 use cc_sorts::Table;
 use std::alloc::Global;
 
@@ -191,9 +190,8 @@ pub(crate) fn free(
 {
     let mut found = Vec::new(alloc);
     let mut bound = Vec::new(alloc);
-    let added = add_free(formula, table, &mut bound, &mut found);
-    drop(bound);
-    filled(found, added)
+    add_free(formula, table, &mut bound, &mut found)?;
+    Ok(found)
 }
 
 /// Each number at its first place.

@@ -32,7 +32,6 @@ use cc_defs::{
     BaseLaw, ConstItem, Fault, Formula, Head, LawKind, LawTree, List, OutOfMemory, Part, Statement,
     Tree,
 };
-use cc_results::{boxed, put_last};
 use cc_sorts::Table;
 use cc_wide::{WideBase, WideLaw, WideLaws};
 use std::alloc::Global;
@@ -77,7 +76,7 @@ fn all_widened(alloc: Global, laws: Vec<BaseLaw>) -> Result<Vec<WideBase>, OutOf
 {
     let mut made = Vec::with_capacity(alloc, laws.len())?;
     for law in laws {
-        put_last(&mut made, widened(law))?;
+        made.push(widened(law))?;
     }
     Ok(made)
 }
@@ -100,9 +99,9 @@ fn class_of<'t, 's>(law: &'t LawTree<'s>, head: &'t Tree<'s>, table: &Table, lat
 /// The parts of a law whose head is kept whole.
 #[derive(Drop)]
 struct WholeParts {
-    head: Box<Formula>,
-    body: Box<Formula>,
-    after: Box<Option<Formula>>,
+    head: Formula,
+    body: Formula,
+    after: Option<Formula>,
 }
 
 /// The parts of a law whose head is kept whole. The brackets of the head have their numbers last.
@@ -115,20 +114,20 @@ fn whole_parts<'t, 's>(
     later: bool,
 ) -> Result<WholeParts, OutOfMemory>
     ensures body { IfOk result (λ made.
-        plain_formula made.body.value ≡ words_of.part (vocabulary_of table.now)
+        plain_formula made.body ≡ words_of.part (vocabulary_of table.now)
         (scope_of names.old) names.old.next (plain_caused law.now later).body) }
-    ensures after { IfOk result (λ made. option_map plain_formula made.after.value
+    ensures after { IfOk result (λ made. option_map plain_formula made.after
         ≡ option_map (resolve_of (vocabulary_of table.now) (scope_of names.old)
         (names.old.next + words_of.part_brackets (plain_caused law.now later).body))
         (plain_caused law.now later).after) }
-    ensures head { IfOk result (λ made. plain_formula made.head.value
+    ensures head { IfOk result (λ made. plain_formula made.head
         ≡ resolve_of (vocabulary_of table.now) (scope_of names.old)
         (names.old.next + words_of.part_brackets (plain_caused law.now later).body
         + words_of.part_brackets (plain_caused law.now later).after) (plain_tree head.now)) }
 {
-    let body = boxed(alloc, written_body(alloc, law, table, names, later))?;
-    let after = boxed(alloc, resolve_after(alloc, law, table, names, later))?;
-    let head = boxed(alloc, resolve(alloc, head, table, names))?;
+    let body = written_body(alloc, law, table, names, later)?;
+    let after = resolve_after(alloc, law, table, names, later)?;
+    let head = resolve(alloc, head, table, names)?;
     Ok(WholeParts { head, body, after })
 }
 
@@ -149,10 +148,10 @@ fn whole_law<'t, 's>(
     let parts = whole_parts(alloc, law, head, table, &mut frame.names, later)?;
     Ok(WideBase::One(WideLaw {
         ranges: List::of(frame.ranges),
-        head: Box::into_inner(parts.head),
-        body: Box::into_inner(parts.body),
-        after: Box::into_inner(parts.after),
-        test: Box::into_inner(frame.test),
+        head: parts.head,
+        body: parts.body,
+        after: parts.after,
+        test: frame.test,
         kind: class_of(law, head, table, later),
         file: frame.file,
         line: frame.line,
@@ -246,10 +245,8 @@ fn expand_wide_law<'t, 's>(
     ensures refused { IfErr result (IsRefusedBy (refused_if file line (least (wide_faults
         (vocabulary_of table.now) (plain_law law.now) (optional (option_map boxed_tree test.now)))))) }
 {
-    match passed(wide_fault(alloc, law, test, table), file, line) {
-        Ok(()) => given(wide_in(alloc, law, test, file, table, line)),
-        Err(fault) => Err(fault),
-    }
+    passed(wide_fault(alloc, law, test, table), file, line)?;
+    given(wide_in(alloc, law, test, file, table, line))
 }
 
 /// The laws of a statement of constants.

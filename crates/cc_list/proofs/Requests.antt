@@ -127,6 +127,14 @@ valued_within modes.CheckGeneral given request e =
     let file = from_provided given.file _ request e in
     let log = from_provided given.log _ request file.2 in
     subst IsWithin (some_is _ request log.2) tt
+valued_within modes.Forever given request e =
+    let file = from_provided given.file _ request e in
+    let budget = from_provided (budget_of given) _ request file.2 in
+    subst IsWithin (some_is _ request budget.2) (budget_within given budget.0 budget.1)
+valued_within modes.CheckForever given request e =
+    let file = from_provided given.file _ request e in
+    let log = from_provided given.log _ request file.2 in
+    subst IsWithin (some_is _ request log.2) tt
 
 asked_within : (mode : Mode) (given : Given) (request : Request) → asked_in mode given ≡ Some request → IsWithin request
 asked_within mode given request e = valued_within mode given request (from_suited (suits mode given) (valued mode given) request e)

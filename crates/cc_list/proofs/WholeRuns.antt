@@ -14,7 +14,7 @@ use Rattle.cc_tell.specs.declared.status.Status.TheVariants as statuses
 use Rattle.cc_tell.specs.declared.status.Stop.{Stop}
 use Rattle.cc_tell.specs.declared.status.Stop.TheVariants as stops
 use Rattle.cc_tell.specs.StopLines.{TellsStop, cut_status, stop_status}
-use Rattle.cc_words.specs.Requests.{Listing, Request, ToBeSure, ToCheck, ToCheckGeneral, ToCheckModels, ToCheckSure, ToConvert, ToExplain, ToExport, ToList, ToListGenerally, ToMake, ToModel}
+use Rattle.cc_words.specs.Requests.{Listing, Request, ToBeSure, ToCheck, ToCheckForever, ToCheckGeneral, ToCheckModels, ToCheckSure, ToConvert, ToSayWhy, ToExport, ToList, ToListGenerally, ToMake, ToModel, ToProve}
 use Rattle.cc_words.specs.Words.{Text}
 use Rattle.cc_list.proofs.Callings.{told_ends_nothing}
 use Rattle.cc_list.proofs.Outcomes.{asked_lacking, names_ended, names_stopped, rose_earlier, rose_later, run_ended, run_stopped}
@@ -83,7 +83,7 @@ pub answers_other : (request : Request) (x : Moment) → ((listing : Listing) �
 answers_other (ToList listing) x other = absurd (other listing refl)
 answers_other (ToCheck checking) x other = refl
 answers_other (ToMake size budget) x other = refl
-answers_other (ToExplain explaining) x other = refl
+answers_other (ToSayWhy saying) x other = refl
 answers_other (ToConvert converting) x other = refl
 answers_other (ToExport exporting) x other = refl
 answers_other (ToModel modelling) x other = refl
@@ -92,6 +92,8 @@ answers_other (ToBeSure surely) x other = refl
 answers_other (ToCheckSure checking) x other = refl
 answers_other (ToListGenerally generally) x other = refl
 answers_other (ToCheckGeneral checking) x other = refl
+answers_other (ToProve proving) x other = refl
+answers_other (ToCheckForever checking) x other = refl
 
 -- memory was wanting before it was known what the words ask for
 pub lacking : (promise : Promise) (x z : Moment) (status : Status) → ((o : Option Contents) → (all : List Text) × IfSome o (λ c. promise.Opens c.files all)) →
@@ -113,7 +115,7 @@ answers_lacking has None x z status tells = lacking refused_words x z status som
 answers_lacking has (Some (ToList listing)) x z status tells = lacking (listing_promise listing) x z status (some_listed has listing) tells
 answers_lacking has (Some (ToCheck checking)) x z status tells = tells
 answers_lacking has (Some (ToMake size budget)) x z status tells = tells
-answers_lacking has (Some (ToExplain explaining)) x z status tells = tells
+answers_lacking has (Some (ToSayWhy saying)) x z status tells = tells
 answers_lacking has (Some (ToConvert converting)) x z status tells = tells
 answers_lacking has (Some (ToExport exporting)) x z status tells = tells
 answers_lacking has (Some (ToModel modelling)) x z status tells = tells
@@ -122,3 +124,5 @@ answers_lacking has (Some (ToBeSure surely)) x z status tells = tells
 answers_lacking has (Some (ToCheckSure checking)) x z status tells = tells
 answers_lacking has (Some (ToListGenerally generally)) x z status tells = tells
 answers_lacking has (Some (ToCheckGeneral checking)) x z status tells = tells
+answers_lacking has (Some (ToProve proving)) x z status tells = tells
+answers_lacking has (Some (ToCheckForever checking)) x z status tells = tells

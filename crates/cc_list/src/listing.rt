@@ -52,25 +52,18 @@ fn list_prepared<D: Desk>(
         })) → Prints (listing_promise (listing_by asked.now))
         (is_some (listing_by asked.now).log) [] (D.seen desk.old) (D.seen desk.new) result }
 {
-    match begin_log(desk, asked.log) {
-        Ok(()) => {
-            let Prepared { laws, query, key } = prepared;
-            let ask = Ask {
-                count: asked.count,
-                budget: asked.budget,
-                after: key,
-            };
-            let teller = Teller::OneByOne {
-                version: asked.form,
-                own: 1,
-            };
-            search(alloc, desk, described, &laws, query, ask, teller)
-        }
-        Err(stop) => {
-            drop(prepared);
-            Err(stop)
-        }
-    }
+    begin_log(desk, asked.log)?;
+    let Prepared { laws, query, key } = prepared;
+    let ask = Ask {
+        count: asked.count,
+        budget: asked.budget,
+        after: key,
+    };
+    let teller = Teller::OneByOne {
+        version: asked.form,
+        own: 1,
+    };
+    search(alloc, desk, described, &laws, query, ask, teller)
 }
 
 /// Lists the first histories of the query that is named, of a description that was read, event by event. Refuses what is not there, or
@@ -112,11 +105,7 @@ pub fn list<D: Desk>(alloc: Global, desk: &mut D, asked: &ListAsked<'_>) -> Resu
         (is_some (listing_by asked.now).log) (D.seen desk.old) (D.seen desk.new) result }
 {
     match describe(alloc, desk, asked.file) {
-        Ok(described) => {
-            let answer = list_described(alloc, desk, &described, asked);
-            drop(described);
-            answer
-        }
+        Ok(described) => list_described(alloc, desk, &described, asked),
         Err(DescribeStop::Refused { refusal, file }) => refuse(alloc, desk, &refusal, file.text()),
         Err(DescribeStop::ReadFault) => Err(Stop::ReadFault),
         Err(DescribeStop::OutOfMemory) => Err(Stop::OutOfMemory),

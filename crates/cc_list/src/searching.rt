@@ -136,7 +136,7 @@ fn list_event<D: Desk>(
     match session.next() {
         Ok(event) => {
             let axioms = axioms_behind(session, &event);
-            let told = tell_next(
+            tell_next(
                 alloc,
                 desk,
                 described,
@@ -144,9 +144,7 @@ fn list_event<D: Desk>(
                 &event,
                 session.row(),
                 axioms,
-            );
-            drop(event);
-            told
+            )
         }
         Err(Fault::Refused(refusal)) => tell_limit(alloc, desk, &refusal),
         Err(Fault::OutOfMemory) => Err(Stop::OutOfMemory),
@@ -177,18 +175,9 @@ fn list_events<D: Desk>(
         (D.seen desk.new) result }
 {
     loop {
-        match list_event(alloc, desk, described, &mut teller, &mut session) {
-            Ok(Some(status)) => {
-                drop(session);
-                drop(teller);
-                return Ok(status);
-            }
-            Ok(None) => {}
-            Err(stop) => {
-                drop(session);
-                drop(teller);
-                return Err(stop);
-            }
+        match list_event(alloc, desk, described, &mut teller, &mut session)? {
+            Some(status) => return Ok(status),
+            None => {}
         }
     }
 }

@@ -12,5 +12,6 @@ mod Meeting
 mod Placing
 mod Sizes
 mod Stances
+mod Supporting
 mod Testing
 mod Turns

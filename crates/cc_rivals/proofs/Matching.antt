@@ -238,6 +238,10 @@ module _ (mean : TermsMeanFormulas) (signature : Signature) (laws : List WideGro
   values : HaveOwnValues w.universe
   values = own_values signature laws w are of
 
+  -- another row satisfies the reduct of a row where it meets the heads of the rules whose tests the row meets
+  pub reduct_is : (row other : List ℕ) → satisfies other (reduct (wide_rules_at w horizon) row) ≡ list_all (holds other) (reduct_heads (wide_timed w horizon) row)
+  reduct_is row other = reduct_true (wide_rules_at w horizon) (wide_timed w horizon) (rules_same mean w values horizon) row other
+
   -- ---- rivals
 
   pub rivals_told : (row : List ℕ) → IsRow (wide_sizes w horizon) row → Tells (rival_axioms w horizon row) (IsRival w horizon row)
@@ -245,7 +249,7 @@ module _ (mean : TermsMeanFormulas) (signature : Signature) (laws : List WideGro
       let S = wide_sizes w horizon in
       let T = wide_timed w horizon in
       let fit = heads_fit S row T timed_fit in
-      let same = reduct_true (wide_rules_at w horizon) T (rules_same mean w values horizon) row in
+      let same = reduct_is row in
       tells_alike (axioms_behind S (rival_parts S row T is fit)) (λ other. IsRow S other × RivalSaid S row T is fit other) (IsRival w horizon row)
       (λ other. (
         (λ h. record { interprets = h.0; satisfied = same other ∙ h.1.0; differs = h.1.1 }),
@@ -303,7 +307,7 @@ module _ (mean : TermsMeanFormulas) (signature : Signature) (laws : List WideGro
     -- a candidate is a row of the positions that meets each rule and the query
     pub candidate_said : (row : List ℕ) → IsSaid row ↔ IsCandidate w q horizon row
     candidate_said row =
-        let same : satisfies row (reduct (wide_rules_at w horizon) row) ≡ list_all (rule_met row) T = reduct_true (wide_rules_at w horizon) T (rules_same mean w values horizon) row row ∙ sym (met_heads row T) in (
+        let same : satisfies row (reduct (wide_rules_at w horizon) row) ≡ list_all (rule_met row) T = reduct_is row row ∙ sym (met_heads row T) in (
           (λ h. record {
             interprets = h.0;
             satisfied = same ∙ h.1.0.0;

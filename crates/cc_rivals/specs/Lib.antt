@@ -1,4 +1,5 @@
 pub mod Making
 pub mod Meets
 pub mod Putting
+pub mod Supports
 pub mod Wides

@@ -53,7 +53,7 @@ use Rattle.cc_words.specs.Requests.{Exporting}
 use Rattle.cc_words.specs.Words.{Text}
 use Rattle.cc_tell.proofs.GivenSteps.{step_nothing}
 use Rattle.cc_tell.proofs.LineSteps.{LinesSoFar, lines_end, lines_stop}
-use Rattle.cc_run.proofs.Explained.{ended_as}
+use Rattle.cc_run.proofs.WhyTold.{ended_as}
 use Rattle.cc_list.proofs.Named.{refused_found, unrefused_query}
 use Rattle.cc_list.proofs.Outcomes.{asks_no_more, known, prints_whole}
 

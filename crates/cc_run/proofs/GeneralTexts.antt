@@ -1,5 +1,5 @@
--- What a run over candidates gives, event by event.
-use Rattle.std.proofs.Common.{◌≡◌, ◌∙◌, refl, sym, ap, subst, ℕ, zero, suc, ◌+◌, List, [], ◌∷◌, ◌++◌, append-nil, append_assoc, add-one, flat_map, length, map, Option, Some, None, inl, arith}
+-- What a run over candidates gives, event by event, and how it ends.
+use Rattle.std.proofs.Common.{◌≡◌, ◌∙◌, refl, sym, ap, subst, ℕ, zero, suc, ◌+◌, List, [], ◌∷◌, ◌++◌, append-nil, append_assoc, add-one, flat_map, length, map, Option, Some, None, inl, inr, arith}
 use Rattle.std.specs.Prelude.{IsNone}
 use Rattle.std.proofs.lemmas.Grind.{flat_map-append}
 use Rattle.std.proofs.lemmas.List.{flat_map_more}
@@ -12,16 +12,19 @@ use Rattle.cc_defs.specs.Resolved.{Query}
 use Rattle.cc_defs.specs.Runs.{Section, range_of, told, told_row}
 use Rattle.cc_general.specs.declared.turn.GeneralTurn.{GeneralTurn}
 use Rattle.cc_general.specs.declared.turn.GeneralTurn.TheVariants as events
-use Rattle.cc_general.specs.GeneralRuns.{GeneralEnding, Complete, Asked, NoneAtAll, SpentAmong, SpentOver, GeneralRun, Shown, general_horizon}
+use Rattle.cc_general.specs.GeneralRuns.{ReachesGeneralLimit, GeneralEnding, Complete, Asked, NoneAtAll, SpentAmong, SpentOver, GeneralRun, Shown, general_horizon}
 use Rattle.cc_general.specs.Accepted.{IsUnspentEnding}
 use Rattle.cc_general.specs.Generals.{GoesOnBy, IsSpentWith}
 use Rattle.cc_silent.specs.GeneralLogs.{general_header}
+use Rattle.cc_general.specs.GeneralSteps.{GeneralSubject, IsRightRun, Steps}
 use Rattle.cc_general.specs.GeneralTold.{ending_of, general_log, general_told, none_told, shown_text, shown_told, spent_text}
 use Rattle.cc_lists.specs.Sections.{section_lines}
 use Rattle.cc_run.specs.Generals.{generally_given}
 use Rattle.cc_run.specs.Modes.Generally.{EndsGenerally}
 use Rattle.cc_tell_modes.specs.GeneralTexts.{general_status_behind, given_generally, heading_for, lines_text}
+use Rattle.cc_tell.specs.declared.status.Status.{Status}
 use Rattle.cc_tell.specs.Statuses.{status_of}
+use Rattle.cc_tell_modes.specs.RunsTold.{EndsBy, GivesBy}
 use Rattle.cc_tell.specs.Givens.{Given, joined}
 use Rattle.cc_wide.specs.WideLaws.{WideDescription, frame}
 
@@ -170,7 +173,7 @@ module _ (q : Query) where
 
 module _ (w : WideDescription) (q : Query) (run : GeneralRun) (event : GeneralTurn) (after : GeneralRun) (goes : GoesOnBy q run event after) where
   -- what a run gives grows by what is told
-  pub grown : IsNone run.ending → joined (generally_given w q run) (given_generally (frame w) event) ≡ generally_given w q after
+  grown : IsNone run.ending → joined (generally_given w q run) (given_generally (frame w) event) ≡ generally_given w q after
   grown open_yet =
       let more = grows_behind q run event after open_yet goes in
       ap (λ (g : Given). joined (generally_given w q run) g) (given_is (frame w) event)
@@ -191,7 +194,7 @@ spent_status rivals_of lines (SpentAmong section) horizon listed is = refl
 spent_status rivals_of lines (SpentOver row section) horizon listed is = refl
 
 -- the run ends as its last event says
-pub ends_so : (w : WideDescription) (q : Query) (count : Option ℕ) (run : GeneralRun) (event : GeneralTurn) (after : GeneralRun) → GoesOnBy q run event after →
+ends_so : (w : WideDescription) (q : Query) (count : Option ℕ) (run : GeneralRun) (event : GeneralTurn) (after : GeneralRun) → GoesOnBy q run event after →
     EndsGenerally w q count after [] (general_status_behind event)
 ends_so w q count run (events.NoHistory horizon) after goes = refl
 ends_so w q count run (events.History horizon number row lines) after goes = refl
@@ -200,3 +203,27 @@ ends_so w q count run (events.Ended ending) after (how, unspent, ending_is, is) 
 ends_so w q count run (events.Spent horizon listed rivals_of lines) after (how, spent, here, counted, is) =
     subst (λ (r : GeneralRun). EndsGenerally w q count r [] (general_status_behind (events.Spent horizon listed rivals_of lines))) (sym is)
     (inl (how, refl, refl, spent_status rivals_of lines how (general_horizon q run) (length run.shown) spent))
+
+-- ---- how a run is told
+
+module _ (of : GeneralSubject) where
+  abbrev d : Description
+  d = frame of.description
+
+  -- what a run gives grows by what is told
+  pub generally_gives : GivesBy (IsRightRun of) (Steps of) (λ (state : Unit {0}) (turn : GeneralTurn). given_generally d turn) (λ state turn. state) (λ run. tt)
+      (generally_given of.description of.query)
+  generally_gives = record {
+    grows = λ run after turn right right_after says. sym (grown of.description of.query run turn after says.goes says.open_yet);
+    moves = λ run after turn right right_after says. refl;
+  }
+
+  -- it ends as its last event says
+  pub generally_ends : (run : GeneralRun) (err : List ℕ) (ends : Option Status) →
+      EndsBy (ReachesGeneralLimit of.description of.query of.count) (Steps of) general_status_behind run err ends → EndsGenerally of.description of.query of.count run err ends
+  generally_ends run err None how = how
+  generally_ends run err (Some status) (inr limit) = inr limit
+  generally_ends run err (Some status) (inl (before, turn, says, status_is, err_is)) =
+      subst (λ (ends : Option Status). EndsGenerally of.description of.query of.count run err ends) status_is
+      (subst (λ (text : List ℕ). EndsGenerally of.description of.query of.count run text (general_status_behind turn)) (sym err_is)
+      (ends_so of.description of.query of.count before turn run says.goes))

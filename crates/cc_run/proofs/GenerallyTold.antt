@@ -1,17 +1,24 @@
 -- A run over candidates that is told, from its steps.
-use Rattle.std.proofs.Common.{◌≡◌, ◌∙◌, refl, sym, ap, subst, arith, ℕ, ◌≤◌, List, [], Option, Some, None, Result, Ok, Err, IfSome, IfOk, inl, inr}
+use Rattle.std.proofs.Common.{◌≡◌, ◌∙◌, refl, sym, ap, subst, arith, ℕ, ◌≤◌, List, [], append-nil, Option, Some, None, Result, Ok, Err, IfSome, IfOk, inl, inr}
 use Rattle.std.specs.Prelude.{is_some}
 use Rattle.cc_defs.specs.declared.refusal.Refusal.{Refusal}
+use Rattle.cc_defs.specs.GroundLaws.{PlainGroundQuery, StandsForQuery}
 use Rattle.cc_defs.specs.Limits.{most_steps}
 use Rattle.cc_defs.specs.LogTexts.{IsShort}
 use Rattle.cc_defs.specs.Resolved.{Query}
 use Rattle.cc_defs.specs.Runs.{optional, range_of}
+use Rattle.cc_defs.specs.Signatures.{Signature}
 use Rattle.cc_describe.specs.Places.{Files}
 use Rattle.cc_general.specs.Accepted.{GeneralLogsAreAccepted}
-use Rattle.cc_general.specs.GeneralRuns.{GeneralEnding, Complete, Asked, NoneAtAll, SpentAmong, SpentOver, GeneralRun, general_horizon}
+use Rattle.cc_general.specs.GeneralRuns.{GeneralEnding, Complete, Asked, NoneAtAll, SpentAmong, SpentOver, GeneralRun, ReachesGeneralLimit, general_horizon}
+use Rattle.cc_general.specs.Generals.{GeneralView, IsGeneralOf, nothing_told}
+use Rattle.cc_general.specs.GeneralSteps.{GeneralSubject, IsRightRun, Steps}
+use Rattle.cc_silent.specs.GeneralLogs.{general_header}
 use Rattle.cc_ports.specs.Contents.{Contents}
+use Rattle.cc_ports.specs.declared.desk.To.TheVariants as outputs
 use Rattle.cc_ports.specs.Moments.{Moment}
-use Rattle.cc_run.specs.Generals.{TellsGenerally, generally_given}
+use Rattle.cc_rivals.specs.Wides.{AreWideLawsOf}
+use Rattle.cc_run.specs.Generals.{AreWideOf, generally_given}
 use Rattle.cc_run.specs.Modes.Generally.{EndsGenerally, ListsGenerally, NamesWide, RefusesGenerally, general_promise, general_status, named_generally}
 use Rattle.cc_list.specs.Promises.{IsEndStatus, Keeps, log_asked}
 use Rattle.cc_list.specs.Stops.{Prints, outcome}
@@ -20,15 +27,19 @@ use Rattle.cc_tell.specs.declared.status.Status.{Status}
 use Rattle.cc_tell.specs.declared.status.Status.TheVariants as statuses
 use Rattle.cc_tell.specs.declared.status.Stop.{Stop}
 use Rattle.cc_tell.specs.Steps.{Begins}
-use Rattle.cc_tell.specs.Givens.{nothing}
-use Rattle.cc_wide.specs.WideLaws.{WideDescription}
+use Rattle.cc_tell.specs.Givens.{given_to, nothing}
+use Rattle.cc_tell_modes.specs.GeneralTexts.{general_status_behind}
+use Rattle.cc_tell_modes.specs.RunsTold.{TellsRun}
+use Rattle.cc_wide.specs.declared.ground.WideGroundLaw.{WideGroundLaw}
+use Rattle.cc_wide.specs.WideLaws.{WideDescription, frame}
 use Rattle.cc_words.specs.declared.asked.GeneralAsked.{GeneralAsked}
 use Rattle.cc_words.specs.Requests.{Generally, ToListGenerally}
 use Rattle.cc_words.specs.Words.{Text}
 use Rattle.cc_tell.proofs.GivenSteps.{step_as}
 use Rattle.cc_list.proofs.Outcomes.{known, prints_begun}
 use Rattle.cc_words.specs.Views.{generally_by}
-use Rattle.cc_run.proofs.SurelyTold.{log_begins}
+use Rattle.cc_run.proofs.GeneralTexts.{generally_ends}
+use Rattle.cc_run.proofs.SurelyTold.{log_begins, with_err}
 
 -- ---- what is asked
 
@@ -55,6 +66,25 @@ pub general_log_named : (generally : Generally) (names : List Text) → names �
     (status : Status) → names ≡ log_asked (general_promise generally) status
 general_log_named generally names named status = named
 
+-- what a run is about
+abbrev pub asked_of : WideDescription → Query → (count : Option ℕ) → (budget : ℕ) → GeneralSubject
+asked_of w q count budget = record { description = w; query = q; count = count; budget = budget }
+
+abbrev pub TellsGenerally : WideDescription → Query → (count : Option ℕ) → (budget : ℕ) → Moment → Moment → Result Status Stop → Type 0
+TellsGenerally w q count budget x y r = TellsRun (IsRightRun (asked_of w q count budget)) (ReachesGeneralLimit w q count) (Steps (asked_of w q count budget)) general_status_behind
+    (generally_given w q) nothing x y r
+
+pub general_of : (general : GeneralView) (signature : Signature) (laws : List WideGroundLaw) (query : PlainGroundQuery) (w : WideDescription) (q : Query) → general.signature ≡ signature →
+    general.laws ≡ laws → general.query ≡ query → AreWideOf signature laws query w q → IsGeneralOf general w q
+general_of general signature laws query w q signature_is laws_is query_is of = record {
+  laws = subst (λ (s : Signature). AreWideLawsOf s general.laws w) (sym signature_is) (subst (λ (l : List WideGroundLaw). AreWideLawsOf signature l w) (sym laws_is) of.laws_are);
+  query = subst (λ (p : PlainGroundQuery). StandsForQuery p (frame w) q) (sym query_is) of.query_is;
+}
+
+-- the run that has told nothing gives the header of its log
+pub header_is : (w : WideDescription) (q : Query) → given_to outputs.Log general_header ≡ generally_given w q nothing_told
+header_is w q = λ i. record { out = []; err = []; log = sym (append-nil general_header) i }
+
 -- ---- a run
 
 status_may : (q : Query) (run : GeneralRun) (ending : GeneralEnding) → IsEndStatus (general_status q run ending)
@@ -74,38 +104,41 @@ generally_may w q count run err (Some other) status (inr refused) is =
 
 pub prints_generally : {X : Type 0} (generally : Generally) (w : WideDescription) (q : Query) (names : List Text) (x y z : Moment) (b : Result X Stop) (v : X) (r : Result Status Stop) →
     GeneralLogsAreAccepted → (range_of q).1 ≤ most_steps → names ≡ optional generally.log →
-    IfSome x.told (λ c. NamesWide c.files (named_generally generally) w q) → Begins (is_some generally.log) names x y b → b ≡ Ok v → TellsGenerally w q generally.count generally.budget nothing y z r → Prints (general_promise generally) (is_some generally.log) [] x z r
+    IfSome x.told (λ c. NamesWide c.files (named_generally generally) w q) → Begins (is_some generally.log) names x y b → b ≡ Ok v → TellsGenerally w q generally.count generally.budget y z r → Prints (general_promise generally) (is_some generally.log) [] x z r
 prints_generally generally w q names x y z b v r law low named is at was told =
-    let more = told.more in
-    let within = more.fair.within in
+    let fair = told.fair.fair in
+    let within = fair.within in
     let short : IsShort (general_horizon q told.run) = omega arith in
-    let whole : Whole = record { given = record (generally_given w q told.run) { err = more.err }; begun = is_some generally.log; ends = told.ends } in
+    let whole : Whole = record { given = record (generally_given w q told.run) { err = told.err }; begun = is_some generally.log; ends = told.ends } in
     let lists : (files : Files) → NamesWide files (named_generally generally) w q → ListsGenerally generally files whole = λ files is. record {
       description = w;
       query = q;
       named = is;
       run = told.run;
-      fair = more.fair;
+      fair = fair;
       out = refl;
       log = refl;
-      accepted = λ unspent. law w q generally.count generally.budget told.run more.fair unspent short told.writable;
+      accepted = λ unspent. law w q generally.count generally.budget told.run fair unspent short told.fair.writable;
       begun = refl;
-      ends = more.how;
+      ends = ends;
     } in
     let names_are = general_log_named generally names named in
     prints_begun (general_promise generally) (is_some generally.log) names whole x y z b v r (names_are statuses.Right) (λ _. names_are (outcome r))
     (known x.told (λ c. NamesWide c.files (named_generally generally) w q) (λ c. Keeps (general_promise generally) c.files whole)
     (λ c is. inr (lists c.files is)) is)
-    refl at was (step_as more.given whole.given y z r more.grows more.step) told.ended (may r told.ended)
+    refl at was (step_as told.more whole.given y z r (told.grows ∙ with_err (generally_given w q told.run) told.err refl) told.step) told.ended (may r told.ended)
   where
+    ends : EndsGenerally w q generally.count told.run told.err told.ends
+    ends = generally_ends (asked_of w q generally.count generally.budget) told.run told.err told.ends told.how
+
     may : (r : Result Status Stop) → IfOk r (λ status. told.ends ≡ Some status) → IfOk r ((general_promise generally).MayEnd)
-    may (Ok status) is = generally_may w q generally.count told.run told.more.err told.ends status told.more.how is
+    may (Ok status) is = generally_may w q generally.count told.run told.err told.ends status ends is
     may (Err stop) is = tt
 
 -- the same, asked by what the program has
 pub told_as : (asked : GeneralAsked) (generally : Generally) → generally_by asked ≡ generally → (w : WideDescription) (q : Query) (x y : Moment) (r : Result Status Stop) →
-    TellsGenerally w q asked.count asked.budget nothing x y r → TellsGenerally w q generally.count generally.budget nothing x y r
-told_as asked generally is w q x y r tells = subst (λ (g : Generally). TellsGenerally w q g.count g.budget nothing x y r) is tells
+    TellsGenerally w q asked.count asked.budget x y r → TellsGenerally w q generally.count generally.budget x y r
+told_as asked generally is w q x y r tells = subst (λ (g : Generally). TellsGenerally w q g.count g.budget x y r) is tells
 
 pub named_as : (o : Option Contents) (asked : GeneralAsked) (generally : Generally) → generally_by asked ≡ generally → (w : WideDescription) (q : Query) →
     IfSome o (λ c. NamesWide c.files (named_generally (generally_by asked)) w q) → IfSome o (λ c. NamesWide c.files (named_generally generally) w q)

@@ -1,11 +1,9 @@
 pub mod Claims
 pub mod CnfReadings
 pub mod Converted
-pub mod Explained
 pub mod Exported
-pub mod GeneralFinds
+pub mod ForeverSaying
 pub mod GeneralTexts
-mod GeneralWritten
 pub mod GenerallyTold
 pub mod Judged
 pub mod LogsJudged
@@ -15,9 +13,11 @@ pub mod ModelLines
 pub mod ModelRuns
 pub mod ModelTexts
 pub mod Promised
+pub mod ProvingTexts
+pub mod ProvingTold
 pub mod Reading
-pub mod SureFinds
 pub mod SureTexts
 pub mod SurelyTold
+pub mod WhyTold
 pub mod WideClaims
 pub mod WideGrounded

@@ -3,15 +3,16 @@ use Rattle.std.proofs.Common.{refl, sym, subst, List, [], ◌∷◌, Option, Som
 use Rattle.cc_describe.specs.Places.{Files, HasPlaces}
 use Rattle.cc_ports.specs.Contents.{Contents}
 use Rattle.cc_run.specs.Judging.{MayEndJudging}
-use Rattle.cc_run.specs.Modes.Explaining.{MayEndExplaining}
+use Rattle.cc_run.specs.Modes.Why.{MayEndWhy}
 use Rattle.cc_run.specs.Modes.Exporting.{MayEndExporting}
 use Rattle.cc_run.specs.Modes.Making.{MayEndMaking}
+use Rattle.cc_run.specs.Modes.Proving.{MayEndProving}
 use Rattle.cc_run.specs.Modes.Surely.{MayEndSurely}
 use Rattle.cc_run.specs.Promised.{promise_asked}
 use Rattle.cc_list.specs.Promises.{IsEndStatus}
 use Rattle.cc_tell.specs.declared.status.Status.{Status}
 use Rattle.cc_tell.specs.declared.status.Status.TheVariants as statuses
-use Rattle.cc_words.specs.Requests.{Request, ToBeSure, ToCheck, ToCheckGeneral, ToCheckModels, ToCheckSure, ToConvert, ToExplain, ToExport, ToList, ToListGenerally, ToMake, ToModel}
+use Rattle.cc_words.specs.Requests.{Request, ToBeSure, ToCheck, ToCheckForever, ToCheckGeneral, ToCheckModels, ToCheckSure, ToConvert, ToSayWhy, ToExport, ToList, ToListGenerally, ToMake, ToModel, ToProve}
 use Rattle.cc_words.specs.Words.{Text}
 
 -- each may be refused
@@ -20,7 +21,7 @@ may_be_refused None = refl
 may_be_refused (Some (ToList listing)) = tt
 may_be_refused (Some (ToCheck checking)) = tt
 may_be_refused (Some (ToMake size budget)) = tt
-may_be_refused (Some (ToExplain explaining)) = tt
+may_be_refused (Some (ToSayWhy saying)) = tt
 may_be_refused (Some (ToConvert converting)) = tt
 may_be_refused (Some (ToExport exporting)) = tt
 may_be_refused (Some (ToModel modelling)) = tt
@@ -29,6 +30,8 @@ may_be_refused (Some (ToBeSure surely)) = tt
 may_be_refused (Some (ToCheckSure checking)) = tt
 may_be_refused (Some (ToListGenerally generally)) = tt
 may_be_refused (Some (ToCheckGeneral checking)) = tt
+may_be_refused (Some (ToProve proving)) = tt
+may_be_refused (Some (ToCheckForever checking)) = tt
 
 -- some names are asked for, whatever is asked
 some_asked : HasPlaces → (files : Files) (request : Option Request) → (all : List Text) × (promise_asked request).Opens files all
@@ -40,8 +43,8 @@ some_asked has files (Some (ToCheck checking)) =
     let there = has files checking.file in
     (_, (_, (there.0, there.1, refl), refl))
 some_asked has files (Some (ToMake size budget)) = ([], refl)
-some_asked has files (Some (ToExplain explaining)) =
-    let there = has files explaining.file in
+some_asked has files (Some (ToSayWhy saying)) =
+    let there = has files saying.file in
     (_, (there.0, there.1, refl))
 some_asked has files (Some (ToConvert converting)) =
     let there = has files converting.file in
@@ -61,6 +64,12 @@ some_asked has files (Some (ToListGenerally generally)) =
     let there = has files generally.file in
     (_, (there.0, there.1, refl))
 some_asked has files (Some (ToCheckGeneral checking)) =
+    let there = has files checking.file in
+    (_, (_, (there.0, there.1, refl), refl))
+some_asked has files (Some (ToProve proving)) =
+    let there = has files proving.file in
+    (_, (there.0, there.1, refl))
+some_asked has files (Some (ToCheckForever checking)) =
     let there = has files checking.file in
     (_, (_, (there.0, there.1, refl), refl))
 
@@ -88,15 +97,15 @@ may_end_making statuses.ReadFault is = is
 may_end_making statuses.WriteFault is = is
 may_end_making statuses.OutOfMemory is = is
 
-may_end_explaining : (status : Status) → MayEndExplaining status → IsEndStatus status
-may_end_explaining statuses.Right is = is
-may_end_explaining statuses.Not is = is
-may_end_explaining statuses.Refused is = is
-may_end_explaining statuses.Spent is = absurd is
-may_end_explaining statuses.Asked is = absurd is
-may_end_explaining statuses.ReadFault is = is
-may_end_explaining statuses.WriteFault is = is
-may_end_explaining statuses.OutOfMemory is = is
+may_end_why : (status : Status) → MayEndWhy status → IsEndStatus status
+may_end_why statuses.Right is = is
+may_end_why statuses.Not is = is
+may_end_why statuses.Refused is = is
+may_end_why statuses.Spent is = absurd is
+may_end_why statuses.Asked is = absurd is
+may_end_why statuses.ReadFault is = is
+may_end_why statuses.WriteFault is = is
+may_end_why statuses.OutOfMemory is = is
 
 may_end_exporting : (status : Status) → MayEndExporting status → IsEndStatus status
 may_end_exporting statuses.Right is = is
@@ -118,13 +127,23 @@ may_end_surely statuses.ReadFault is = is
 may_end_surely statuses.WriteFault is = is
 may_end_surely statuses.OutOfMemory is = is
 
+may_end_proving : (status : Status) → MayEndProving status → IsEndStatus status
+may_end_proving statuses.Right is = is
+may_end_proving statuses.Not is = is
+may_end_proving statuses.Refused is = is
+may_end_proving statuses.Spent is = is
+may_end_proving statuses.Asked is = absurd is
+may_end_proving statuses.ReadFault is = is
+may_end_proving statuses.WriteFault is = is
+may_end_proving statuses.OutOfMemory is = is
+
 -- each comes to its end with a status that is no fault
 pub ends_as_it_may : (request : Option Request) (status : Status) → (promise_asked request).MayEnd status → IsEndStatus status
 ends_as_it_may None status is = subst IsEndStatus (sym is) tt
 ends_as_it_may (Some (ToList listing)) status is = is
 ends_as_it_may (Some (ToCheck checking)) status is = may_end_judging status is
 ends_as_it_may (Some (ToMake size budget)) status is = may_end_making status is
-ends_as_it_may (Some (ToExplain explaining)) status is = may_end_explaining status is
+ends_as_it_may (Some (ToSayWhy saying)) status is = may_end_why status is
 ends_as_it_may (Some (ToConvert converting)) status is = may_end_judging status is
 ends_as_it_may (Some (ToExport exporting)) status is = may_end_exporting status is
 ends_as_it_may (Some (ToModel modelling)) status is = is
@@ -133,3 +152,5 @@ ends_as_it_may (Some (ToBeSure surely)) status is = may_end_surely status is
 ends_as_it_may (Some (ToCheckSure checking)) status is = may_end_judging status is
 ends_as_it_may (Some (ToListGenerally generally)) status is = is
 ends_as_it_may (Some (ToCheckGeneral checking)) status is = may_end_judging status is
+ends_as_it_may (Some (ToProve proving)) status is = may_end_proving status is
+ends_as_it_may (Some (ToCheckForever checking)) status is = may_end_judging status is

@@ -1,5 +1,5 @@
 -- A log that is judged: what a check mode gives and refuses, whatever its log is one of.
-use Rattle.std.specs.Prelude.{◌≡◌, ◌⊎◌, ◌<◌, ◌≤◌, ℕ, false, List, [], ◌∷◌, ◌++◌, length, None, Some, IfErr, IfOk, IfSome, Err, Result, option_map}
+use Rattle.std.specs.Prelude.{◌≡◌, ◌⊎◌, ◌<◌, ◌≤◌, ℕ, false, List, [], ◌∷◌, ◌++◌, length, None, Some, IfOk, IfSome, Err, Result, option_map}
 use Rattle.cc_defs.specs.declared.refusal.Fault.{Fault}
 use Rattle.cc_defs.specs.declared.refusal.Fault.TheVariants as faults
 use Rattle.cc_defs.specs.declared.refusal.LimitAt.TheVariants as limits

@@ -1,6 +1,5 @@
 pub mod CnfForms
 pub mod Converted
-pub mod Explained
 pub mod Exported
 pub mod Generals
 pub mod Judging
@@ -10,3 +9,4 @@ pub mod Naming
 pub mod Promised
 pub mod Reading
 pub mod Sures
+pub mod WhyTold

@@ -1,11 +1,13 @@
 pub mod Checking
+pub mod CheckingForever
 pub mod CheckingGeneral
 pub mod CheckingModels
 pub mod CheckingSure
 pub mod Converting
-pub mod Explaining
 pub mod Exporting
 pub mod Generally
 pub mod Making
 pub mod Modelling
+pub mod Proving
 pub mod Surely
+pub mod Why

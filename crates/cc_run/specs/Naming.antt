@@ -4,15 +4,15 @@ use Rattle.cc_describe.specs.Places.{Files}
 use Rattle.cc_list.specs.Tasks.{Named}
 use Rattle.cc_make.specs.Locks.{made_text}
 use Rattle.cc_make.specs.Single.{each_is}
-use Rattle.cc_words.specs.Requests.{Checking, Converting, Explaining, Exporting}
+use Rattle.cc_words.specs.Requests.{Checking, Converting, SayingWhy, Exporting}
 use Rattle.cc_words.specs.Words.{Text}
 
 abbrev pub named_in : Checking → Named
 named_in checking = record { file = checking.file; query = checking.query; after = checking.after }
 
 -- a description alone
-abbrev pub named_to : Explaining → Named
-named_to explaining = record { file = explaining.file; query = None; after = None }
+abbrev pub named_to : SayingWhy → Named
+named_to saying = record { file = saying.file; query = None; after = None }
 
 -- what is read and judged before it is converted
 abbrev pub checked_by : Converting → Checking

@@ -3,6 +3,8 @@
 pub(crate) mod check;
 pub(crate) mod convert;
 pub(crate) mod export;
+pub(crate) mod forever;
+pub(crate) mod forever_check;
 pub(crate) mod general;
 pub(crate) mod general_check;
 pub(crate) mod make;

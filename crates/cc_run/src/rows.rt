@@ -9,8 +9,8 @@ ghost use Rattle.cc_defs.specs.Refusals.{IsRefusedBy};
 ghost use Rattle.cc_defs.specs.Rows.{IsRow};
 ghost use Rattle.cc_describe.specs.Describing.{HasForms};
 ghost use Rattle.cc_print.specs.Keys.{IsKeyText};
-ghost use Rattle.cc_run.specs.Explained.{IsExplainingFault, IsLookedAt, IsRowFault};
-ghost use Rattle.cc_run.specs.Modes.Explaining.{IsRowNamed};
+ghost use Rattle.cc_run.specs.WhyTold.{IsWhyFault, IsLookedAt, IsRowFault};
+ghost use Rattle.cc_run.specs.Modes.Why.{IsRowNamed};
 ghost use Rattle.cc_sorts.specs.Tables.{IsSignatureFor};
 ghost use Rattle.cc_theory.specs.Theories.{AreLawsFor, AreLawsOf, rules_refusal};
 ghost use Rattle.cc_words.specs.Words.{Text};
@@ -99,7 +99,7 @@ pub(crate) fn look_at<'a>(
     ensures named { (d : Description) → IsDescriptionOf described.now d → IfOk result (λ made.
         IsLookedAt d described.now.sig text.now made.laws made.key made.is_path) }
     ensures refused { (d : Description) →
-        IsDescriptionOf described.now d → IfErr result (IsExplainingFault d text.now) }
+        IsDescriptionOf described.now d → IfErr result (IsWhyFault d text.now) }
 {
     let laws = laws_of(alloc, described, terms)?;
     let key = row_named(alloc, &described.sig, text)?;

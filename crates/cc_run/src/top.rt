@@ -29,7 +29,8 @@ use std::alloc::Global;
 /// of a size, searches for all its histories, and sums up the search; or it tells why each value of a history holds, whose key the
 /// words name; or it lists the models of a CNF, or judges a log of them; or it tells of each atom of the first horizon that has a history
 /// whether all of them have it, some or none, or judges a log of what is impossible; or it lists histories by the definition
-/// of a model itself, where heads may be of any form, or judges a log of that.
+/// of a model itself, where heads may be of any form, or judges a log of that; or it proves by induction that a claim holds, or that
+/// there is no history, at every horizon, or judges a log of that.
 ///
 /// `words` are the program's words without its name. Each line of an output is given by one `give_all`. The lines of the log
 /// are given to Log whether or not the words name a file for it, unless the desk drops what is given there. After a fault of the
@@ -39,7 +40,8 @@ pub fn run<D: Desk>(alloc: Global, words: &[String], desk: &mut D) -> Status
     // log was begun, and the status are the answer to the words: exactly the first refusal; or the first histories of the
     // query, in ascending order, each once, marked complete only where they are all, and a horizon said to be empty only where
     // it has none, with the log of the search; or, where a horizon passes a limit, that refusal behind what was told before; or
-    // what a checker says of the log that they name; or why the values of a history hold; or, after a fault, fronts of these.
+    // what a checker says of the log that they name; or why the values of a history hold; or that no horizon has a history, without
+    // an end; or, after a fault, fronts of these.
     ensures answer { IfSome (D.seen desk.old).told (λ before. IsFresh before →
         (D.seen desk.old).begun ≡ false → IsSomeAnd (D.seen desk.new).told
         (λ after. Answered before after (D.seen desk.new).begun (promised (map string_bytes words.now)) result
@@ -95,7 +97,7 @@ fn answer_asked<D: Desk>(alloc: Global, desk: &mut D, asked: &Asked<'_>) -> Resu
         Asked::List(asked) => list(alloc, desk, asked),
         Asked::Check(asked) => answer_file(alloc, desk, asked),
         Asked::Make { size, budget } => make(alloc, desk, *size, *budget),
-        Asked::Explain(asked) => answer_file(alloc, desk, asked),
+        Asked::Why(asked) => answer_file(alloc, desk, asked),
         Asked::Convert(asked) => answer_file(alloc, desk, asked),
         Asked::Export(asked) => answer_file(alloc, desk, asked),
         Asked::Models(asked) => models(alloc, desk, asked),
@@ -104,6 +106,8 @@ fn answer_asked<D: Desk>(alloc: Global, desk: &mut D, asked: &Asked<'_>) -> Resu
         Asked::CheckSure(asked) => answer_file(alloc, desk, asked),
         Asked::General(asked) => answer_file(alloc, desk, asked),
         Asked::CheckGeneral(asked) => answer_file(alloc, desk, asked),
+        Asked::Forever(asked) => answer_file(alloc, desk, asked),
+        Asked::CheckForever(asked) => answer_file(alloc, desk, asked),
     }
 }
 

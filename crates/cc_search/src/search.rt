@@ -118,8 +118,7 @@ impl Search {
         requires { IsReady self.old.ask stage }
         ensures { self.new ≡ record self.old { stage = stage } }
     {
-        let before = mem::replace(&mut self.stage, stage);
-        drop(before);
+        self.stage = stage;
     }
 
     // The next row. It is not denied yet.

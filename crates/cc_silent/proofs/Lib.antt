@@ -1,6 +1,7 @@
 pub mod AcceptedSilent
 pub mod Atoms
 pub mod Errors
+pub mod ForeverChecking
 pub mod GeneralChecking
 pub mod Refuting
 pub mod RivalHeadings

@@ -2,10 +2,8 @@
 use Rattle.std.proofs.Common.{ℕ, ◌≤◌, List, None}
 use Rattle.std.specs.Prelude.{false, true}
 use Rattle.cc_check.specs.declared.silent.SilentVerdict.{SilentVerdict}
-use Rattle.cc_check.specs.declared.silent.SilentVerdict.TheVariants as verdicts
 use Rattle.cc_check.specs.Laws.{SilentSectionsHaveNoRows}
 use Rattle.cc_check.specs.Silent.{IsSilentVerdict}
-use Rattle.cc_defs.specs.declared.log.EndWord.TheVariants as words
 use Rattle.cc_defs.specs.Description.{Description}
 use Rattle.cc_defs.specs.Histories.{IsHistory}
 use Rattle.cc_defs.specs.Resolved.{Query}

@@ -1,5 +1,5 @@
 -- Logs of rivals: their header and headings, which are accepted, and what that shows.
-use Rattle.std.specs.Prelude.{◌≡◌, ℕ, ◌≤◌, List, [], ◌∷◌, ◌++◌, codes, Contains}
+use Rattle.std.specs.Prelude.{◌≡◌, ℕ, ◌≤◌, false, true, List, [], ◌∷◌, ◌++◌, codes, Contains}
 use Rattle.std.specs.List.{AllByRecursion}
 use Rattle.std.specs.Option.{option_or}
 use Rattle.cc_check.specs.Silent.{SilentSubject}
@@ -41,7 +41,9 @@ abbrev pub general_subject : WideDescription → Query → SilentSubject Key
 general_subject w q = record {
   header = general_header;
   Reads = IsRivalsHeading;
-  Right = IsCandidateKey w q;
+  Right = λ before. IsCandidateKey w q;
+  closes = λ key. false;
+  may_stay_open = true;
   axioms = λ key. rival_axioms w key.horizon key.row;
   limit = λ key. option_or (candidates_refusal w q key.horizon) (rivals_refusal w key.horizon key.row);
 }

@@ -1,3 +1,5 @@
+pub mod ForeverLogs
+pub mod ForeverParts
 pub mod GeneralLogs
 pub mod RivalParts
 pub mod Sought

@@ -1,5 +1,5 @@
 -- Logs of impossible atoms: their header and headings, which are accepted, and what that shows.
-use Rattle.std.specs.Prelude.{◌≡◌, ℕ, ◌≤◌, List, [], ◌∷◌, ◌++◌, codes, decimal, Contains}
+use Rattle.std.specs.Prelude.{◌≡◌, ℕ, ◌≤◌, false, true, List, [], ◌∷◌, ◌++◌, codes, decimal, Contains}
 use Rattle.cc_check.specs.Silent.{SilentSubject}
 use Rattle.cc_check.specs.declared.silent.SilentVerdict.{SilentVerdict}
 use Rattle.cc_check.specs.declared.silent.SilentVerdict.TheVariants as verdicts
@@ -37,7 +37,9 @@ abbrev pub sure_subject : Description → Query → SilentSubject AtomHeading
 sure_subject d q = record {
   header = sure_header;
   Reads = IsAtomHeading;
-  Right = IsInRange d q;
+  Right = λ before. IsInRange d q;
+  closes = λ heading. false;
+  may_stay_open = true;
   axioms = λ heading. sought_axioms d q heading.horizon (With heading.position heading.value);
   limit = λ heading. sought_refusal d q heading.horizon (With heading.position heading.value);
 }

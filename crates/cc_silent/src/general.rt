@@ -175,10 +175,18 @@ impl<'a> Silent for Rivals<'a> {
         heading_of(alloc, text)
     }
 
-    fn is_right(&self, key: &Key) -> bool {
+    fn is_right(&self, _before: u32, key: &Key) -> bool {
         let row = key.row.items();
         is_tried(self.query, key.horizon)
             && is_candidate(self.sig, self.laws, self.query, key.horizon, row)
+    }
+
+    fn closes(&self, _key: &Key) -> bool {
+        false
+    }
+
+    fn may_stay_open(&self) -> bool {
+        true
     }
 
     fn form(&self, alloc: Global, key: &Key) -> Result<Form, Fault> {

@@ -13,10 +13,10 @@ ghost use Rattle.cc_form.specs.Forms.{with_atom};
 ghost use Rattle.cc_form.specs.Queries.{IsQueryAt};
 ghost use Rattle.cc_silent.specs.Sought.{IsAtomAt};
 ghost use Rattle.cc_silent.specs.SureLogs.{IsAtomHeading, RefutesAtoms, as_silent, sure_subject};
-ghost use Rattle.cc_silent.specs.SureParts.{HasAtom, HasNoPart, IsLastPart, IsPart};
+ghost use Rattle.cc_silent.specs.SureParts.{HasAtom, HasNoPart, IsPart};
 ghost use Rattle.cc_theory.specs.Theories.{AreLawsFor, AreLawsOf};
 
-use crate::parts::{is_line_feed, is_tried};
+use crate::parts::{is_tried, last_number};
 use crate::sure_verdict::SureVerdict;
 use cc_arena::{GroundQuery, Laws};
 use cc_check::theorems::silent_sections_have_no_rows;
@@ -97,20 +97,6 @@ fn number_and_space(text: &[u8]) -> Option<(u32, &[u8])>
         return None;
     };
     Some((number, behind))
-}
-
-/// The number that is all of a text but its line feed.
-fn last_number(text: &[u8]) -> Option<u32>
-    ensures { MatchOption result
-        ((number : ℕ) → IsLastPart text.now number → ⊥) (IsLastPart text.now) }
-{
-    let Some((number, rest)) = number_at(text) else {
-        return None;
-    };
-    if is_line_feed(rest) {
-        return Some(number);
-    }
-    None
 }
 
 /// What a text, with its line feed, says as the heading of an atom.
@@ -200,8 +186,16 @@ impl<'a> Silent for Atoms<'a> {
         Ok(heading_of(text))
     }
 
-    fn is_right(&self, heading: &AtomHeading) -> bool {
+    fn is_right(&self, _before: u32, heading: &AtomHeading) -> bool {
         is_tried(self.query, heading.horizon) && is_atom(self.sig, heading)
+    }
+
+    fn closes(&self, _heading: &AtomHeading) -> bool {
+        false
+    }
+
+    fn may_stay_open(&self) -> bool {
+        true
     }
 
     fn form(&self, alloc: Global, heading: &AtomHeading) -> Result<Form, Fault> {

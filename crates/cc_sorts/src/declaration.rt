@@ -4,7 +4,6 @@ ghost use Rattle.cc_defs.specs.Declarations.{declarations_of, chain_behind, sort
 ghost use Rattle.cc_defs.specs.Trees.{plain_statement, plain_sort_item, plain_member, plain_obj_item, plain_list_item, plain_const_item, plain_shape, plain_kind, Chain};
 ghost use Rattle.cc_sorts.specs.Declaring.{plain_declarations};
 
-use crate::puts::put_last;
 use cc_defs::{
     ConstItem, KindTree, List, ListItem, Member, ObjItem, OutOfMemory, Part, Shape, SortItem,
     Statement,
@@ -116,7 +115,8 @@ fn add_const_item<'t, 's>(
         file line found.old.items ++ constant_declarations file line (plain_const_item item.now)) }
 {
     add_constants(item.shapes.items(), &item.kind, found)?;
-    put_last(found, Declaration::Kinds(&item.shapes, &item.kind))
+    found.push(Declaration::Kinds(&item.shapes, &item.kind))?;
+    Ok(())
 }
 
 fn add_sort_item<'t, 's>(
@@ -142,7 +142,7 @@ fn add_sorts<'t, 's>(
         file line found.old.items ++ map Sort (map (λ name. name.now) names.now)) }
 {
     for name in names {
-        put_last(found, Declaration::Sort(name))?;
+        found.push(Declaration::Sort(name))?;
     }
     Ok(())
 }
@@ -159,7 +159,7 @@ fn add_chain<'t, 's>(
     let Some((first, lower)) = names.split_first() else {
         return Ok(());
     };
-    put_last(found, Declaration::Link(first))?;
+    found.push(Declaration::Link(first))?;
     let mut upper: &'s str = first;
     for name in lower {
         add_link(upper, name, found)?;
@@ -177,8 +177,9 @@ fn add_link<'t, 's>(
         OnOk result (plain_declarations file line found.new.items ≡ plain_declarations
         file line found.old.items ++ Link name.now ∷ Subsort upper.now name.now ∷ []) }
 {
-    put_last(found, Declaration::Link(name))?;
-    put_last(found, Declaration::Subsort(upper, name))
+    found.push(Declaration::Link(name))?;
+    found.push(Declaration::Subsort(upper, name))?;
+    Ok(())
 }
 
 fn add_members<'t, 's>(
@@ -206,9 +207,10 @@ fn add_member<'t, 's>(
         file line found.old.items ++ member_declarations sort.now (plain_member member.now)) }
 {
     match member {
-        Member::Name(name) => put_last(found, Declaration::Object(name, sort)),
-        Member::Numbers(low, high) => put_last(found, Declaration::Numbers(*low, *high, sort)),
+        Member::Name(name) => found.push(Declaration::Object(name, sort))?,
+        Member::Numbers(low, high) => found.push(Declaration::Numbers(*low, *high, sort))?,
     }
+    Ok(())
 }
 
 fn add_variables<'t, 's>(
@@ -221,7 +223,7 @@ fn add_variables<'t, 's>(
         ++ map (λ name. Variable name sort.now) (map (λ name. name.now) names.now)) }
 {
     for name in names {
-        put_last(found, Declaration::Variable(name, sort))?;
+        found.push(Declaration::Variable(name, sort))?;
     }
     Ok(())
 }
@@ -236,7 +238,7 @@ fn add_constants<'t, 's>(
         Constant shape (plain_kind kind.now) file line) (map plain_shape shapes.now)) }
 {
     for shape in shapes {
-        put_last(found, Declaration::Constant(shape, kind))?;
+        found.push(Declaration::Constant(shape, kind))?;
     }
     Ok(())
 }

@@ -213,9 +213,7 @@ impl Register {
         ensures unchanged { OnErr result (self.new ≡ self.old) }
     {
         let digits = format!(in alloc; "{number}")?;
-        let done = self.put_object(alloc, &digits, sort, Some(number));
-        drop(digits);
-        done
+        self.put_object(alloc, &digits, sort, Some(number))
     }
 
     /// Puts the numbers from the one to the other into a sort; after want of memory a front of them is there.
@@ -433,15 +431,6 @@ pub(crate) fn enter(
         (IsRefusedFor file left (plain_statement statement.now) register.old register.new) }
 {
     let mut new = Vec::new(alloc);
-    match add_declarations(statement, &mut new) {
-        Ok(()) => {
-            let declared = register.declare_all(alloc, file, statement.line, &new);
-            drop(new);
-            declared
-        }
-        Err(error) => {
-            drop(new);
-            Err(Fault::from(error))
-        }
-    }
+    add_declarations(statement, &mut new)?;
+    register.declare_all(alloc, file, statement.line, &new)
 }

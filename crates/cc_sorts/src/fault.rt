@@ -60,9 +60,7 @@ fn any_in(
         (λ any. any ≡ any_has (fault_of fault) left (plain_declarations file line new.now)) }
 {
     let mut left = Left::new(alloc, table);
-    let any = any_behind(alloc, &mut left, fault, new);
-    drop(left);
-    any
+    any_behind(alloc, &mut left, fault, new)
 }
 
 /// Whether one of the declarations has the fault behind those to the left and those before it.

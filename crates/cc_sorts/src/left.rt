@@ -17,7 +17,7 @@ ghost use Rattle.cc_sorts.specs.SortViews.{name_at};
 ghost use Rattle.cc_sorts.specs.Entered.{IsEntered};
 
 use crate::declaration::Declaration;
-use crate::puts::{put_entry, put_key, put_last};
+use crate::puts::{put_entry, put_key};
 use crate::register::Register;
 use crate::sorts::Sorts;
 use cc_defs::{Kind, KindTree, KindWord, List, OutOfMemory, Shape, Symbol};
@@ -48,7 +48,6 @@ pub(crate) struct Range<'s> {
 }
 
 /// The declarations of a table, and those of a statement that were added. A name is found by its hash.
-#[derive(Drop)]
 pub(crate) struct Left<'d, 't, 's> {
     table: &'d Register,
     sorts: HashSet<&'s str>,
@@ -62,6 +61,22 @@ pub(crate) struct Left<'d, 't, 's> {
     uppers: HashSet<&'s str>,
     /// The upper sorts of the pairs of each lower sort.
     uppers_of: HashMap<&'s str, Vec<&'s str>>,
+}
+
+// By hand, so that whoever lets one go has one call there, and not a drop for each field.
+impl<'d, 't, 's> Drop for Left<'d, 't, 's> {
+    fn drop(self) {
+        let Left {
+            table: _,
+            sorts: _,
+            names: _,
+            ranges: _,
+            constants: _,
+            pairs: _,
+            uppers: _,
+            uppers_of: _,
+        } = self;
+    }
 }
 
 impl<'d, 't, 's> Left<'d, 't, 's> {
@@ -281,12 +296,8 @@ impl<'d, 't, 's> Left<'d, 't, 's> {
     {
         let mut found: IndexSet<&'a str> = IndexSet::new(alloc);
         let mut closed: IndexSet<&'a str> = IndexSet::new(alloc);
-        let searched = self.search_above(lower, &mut found, &mut closed);
-        let is_found = found.contains(upper);
-        drop(found);
-        drop(closed);
-        searched?;
-        Ok(is_found)
+        self.search_above(lower, &mut found, &mut closed)?;
+        Ok(found.contains(upper))
     }
 
     /// Finds a sort and all sorts above it.
@@ -431,7 +442,8 @@ impl<'d, 't, 's> Left<'d, 't, 's> {
         ensures { OnOk result (Adds self.old self.new
             (Span low high sort.now ∷ numbers_of sort.now (from_to low high))) }
     {
-        put_last(&mut self.ranges, Range { low, high, sort })
+        self.ranges.push(Range { low, high, sort })?;
+        Ok(())
     }
 
     fn add_constant(
@@ -488,7 +500,8 @@ fn add_upper<'s>(
         (AddsUpper uppers_of.old.entries uppers_of.new.entries (upper.now, lower.now)) }
 {
     if let Some(uppers) = uppers_of.get_mut(lower) {
-        return put_last(uppers, upper);
+        uppers.push(upper)?;
+        return Ok(());
     }
     let uppers = Vec::from_slice(alloc, &[upper])?;
     put_entry(uppers_of, lower, uppers)

@@ -5,7 +5,6 @@ ghost use Rattle.cc_sorts.specs.Lists.{lists_of, capacities_of, list_at, at_each
 ghost use Rattle.cc_sorts.specs.Numbers.{Ascends, union};
 
 use crate::numbers::unite;
-use crate::puts::put_last;
 use cc_defs::OutOfMemory;
 use std::alloc::Global;
 
@@ -239,7 +238,8 @@ pub(crate) fn put_lists(
     let uppers = Vec::from_slice(alloc, &[number])?;
     let lowers = Vec::from_slice(alloc, &[number])?;
     // From here on there is room for all.
-    put_last(above, uppers)?;
-    put_last(below, lowers)?;
-    put_last(members, Vec::new(alloc))
+    above.push(uppers)?;
+    below.push(lowers)?;
+    members.push(Vec::new(alloc))?;
+    Ok(())
 }

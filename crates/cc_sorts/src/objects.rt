@@ -6,20 +6,30 @@ ghost use Rattle.cc_sorts.specs.Dictionaries.{number_of, names_of, values_of};
 ghost use Rattle.cc_sorts.specs.Objects.{no_objects, more_objects, checked_at, AreFound};
 
 use crate::dictionary::Dictionary;
-use crate::puts::{put_indexed, put_last};
+use crate::puts::put_indexed;
 use cc_defs::OutOfMemory;
 use indexmap::IndexMap;
 use std::alloc::Global;
 use std::marker::Model;
 
 /// Objects by number, each under a name of its own.
-#[derive(Drop)]
 pub(crate) struct Objects {
     /// Each with the number of the sort that it was first put into.
     names: Dictionary<u32>,
     numbers: Vec<Option<u32>>,
     /// The object of each number. An entry may be of an object that was taken out again.
     places: IndexMap<u32, u32>,
+}
+
+// By hand, so that whoever lets them go has one call there, and not a drop for each field.
+impl Drop for Objects {
+    fn drop(self) {
+        let Objects {
+            names: _,
+            numbers: _,
+            places: _,
+        } = self;
+    }
 }
 
 impl Model for Objects {
@@ -113,7 +123,8 @@ impl Objects {
         self.numbers.reserve(1)?;
         note(&self.numbers, &mut self.places, number, object)?;
         self.names.push(alloc, name, sort)?;
-        put_last(&mut self.numbers, number)
+        self.numbers.push(number)?;
+        Ok(())
     }
 
     /// Takes the last object out again.

@@ -1,6 +1,5 @@
-//! Adding to lists, sets and maps. Of a failure only the want of memory is told, and not what was to be added.
-ghost use Rattle.std.specs.Prelude.{◌≡◌, ◌<◌, ◌++◌, ◌∷◌, [], true, Some, Ok, IsOk, IfOk, OnOk, OnErr};
-ghost use Rattle.std.specs.Vec.{vec_len, vec_capacity};
+//! Adding to sets and maps. Of a failure only the want of memory is told, and not what was to be added.
+ghost use Rattle.std.specs.Prelude.{◌≡◌, ◌<◌, true, Some, IsOk, OnOk, OnErr};
 ghost use Rattle.std.specs.HashMap.{IsUnchanged, Updates as UpdatesEntry};
 ghost use Rattle.std.specs.HashSet.{spare, Updates as UpdatesKey};
 ghost use Rattle.indexmap.specs.IndexMap.{insert_entry, IsUnchanged as HasStayed, Updates as UpdatesIndexed};
@@ -9,16 +8,6 @@ use cc_defs::OutOfMemory;
 use indexmap::IndexMap;
 use std::collections::{HashMap, HashSet};
 use std::hash::Hash;
-
-/// Puts an item behind the others of a list.
-pub(crate) fn put_last<X: Drop>(list: &mut Vec<X>, item: X) -> Result<(), OutOfMemory>
-    ensures items { OnOk result (list.new.items ≡ list.old.items ++ item ∷ []) }
-    ensures unchanged { OnErr result (list.new.items ≡ list.old.items) }
-    ensures succeeds { vec_len list.old < vec_capacity list.old → IsOk result }
-{
-    list.push(item)?;
-    Ok(())
-}
 
 /// Puts a key into a set, unless it has it.
 pub(crate) fn put_key<K: Eq + Hash + Drop>(set: &mut HashSet<K>, key: K) -> Result<(), OutOfMemory>
@@ -54,24 +43,4 @@ pub(crate) fn put_indexed<K: Eq + Hash + Drop, V: Drop>(
 {
     map.insert(key, value)?;
     Ok(())
-}
-
-/// Two values that were made. They are of any type, so that the drop of the one where the other fails is one call.
-pub(crate) fn both<X: Drop, Y: Drop>(
-    first: Result<X, OutOfMemory>,
-    second: Result<Y, OutOfMemory>,
-) -> Result<(X, Y), OutOfMemory>
-    ensures { IfOk result (λ made. (first ≡ Ok made.0) × (second ≡ Ok made.1)) }
-{
-    let first = first?;
-    let second = second?;
-    Ok((first, second))
-}
-
-/// What was filled, if memory was there for it. It is of any type, so that its drop is one call.
-pub(crate) fn filled<X: Drop>(value: X, filling: Result<(), OutOfMemory>) -> Result<X, OutOfMemory>
-    ensures { IfOk result (λ it. (it ≡ value) × (filling ≡ Ok tt)) }
-{
-    filling?;
-    Ok(value)
 }

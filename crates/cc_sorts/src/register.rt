@@ -13,7 +13,6 @@ ghost use Rattle.cc_sorts.specs.Tables.{first_table, symbol_names};
 
 use crate::dictionary::Dictionary;
 use crate::objects::Objects;
-use crate::puts::{both, filled, put_last};
 use crate::shown::{has_put_from, is_put_as};
 use crate::sorts::Sorts;
 use crate::table::{Placed, PutAt};
@@ -80,7 +79,7 @@ fn first_lists(alloc: Global) -> Result<Vec<Vec<u32>>, OutOfMemory>
     ensures { IfOk result (λ lists. lists_of lists.items ≡ first_table.sorts.members) }
 {
     let mut lists = Vec::new(alloc);
-    put_last(&mut lists, Vec::from_slice(alloc, &[0, 1])?)?;
+    lists.push(Vec::from_slice(alloc, &[0, 1])?)?;
     Ok(lists)
 }
 
@@ -89,11 +88,9 @@ fn first_objects(alloc: Global) -> Result<Objects, OutOfMemory>
     ensures numbers { IfOk result (λ objects. objects.numbers ≡ first_table.numbers) }
 {
     let mut objects = Objects::new(alloc);
-    let added = match objects.push(alloc, "false", 0, None) {
-        Ok(()) => objects.push(alloc, "true", 0, None),
-        Err(error) => Err(error),
-    };
-    filled(objects, added)
+    objects.push(alloc, "false", 0, None)?;
+    objects.push(alloc, "true", 0, None)?;
+    Ok(objects)
 }
 
 impl Register {
@@ -104,7 +101,8 @@ impl Register {
     {
         let puts = first_puts(alloc)?;
         let lists = first_lists(alloc)?;
-        let (sorts, objects) = both(Sorts::new(alloc), first_objects(alloc))?;
+        let objects = first_objects(alloc)?;
+        let sorts = Sorts::new(alloc)?;
         Ok(Register {
             sorts,
             puts,

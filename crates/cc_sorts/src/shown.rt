@@ -10,7 +10,6 @@ ghost use Rattle.cc_sorts.specs.Numbers.{Ascends, has as is_among};
 ghost use Rattle.cc_sorts.specs.Shown.{shown_list, shown_lists, put_end, set_each, HasSpace};
 ghost use Rattle.cc_sorts.specs.SortViews.{name_at, members_at, with_sort, with_pair, with_object, IsPast};
 
-use crate::puts::put_last;
 use crate::sorts::Sorts;
 use crate::table::PutAt;
 use cc_defs::OutOfMemory;
@@ -261,7 +260,8 @@ pub(crate) fn add_sort(
 {
     lists.reserve(1)?;
     sorts.add(alloc, name)?;
-    put_last(lists, Vec::new(alloc))
+    lists.push(Vec::new(alloc))?;
+    Ok(())
 }
 
 /// Puts a sort below another that is not below it; after want of memory nothing is changed.
@@ -318,6 +318,6 @@ pub(crate) fn add_put(
     reserve_each(lists, sorts.above(sort))?;
     sorts.add_object(sort, number)?;
     // From here on there is room for all.
-    put_last(puts, put)?;
+    puts.push(put)?;
     show_each(lists, sorts.above(sort), put.object, fresh)
 }

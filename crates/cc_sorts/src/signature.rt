@@ -11,7 +11,6 @@ ghost use Rattle.cc_sorts.specs.Shown.{shown};
 ghost use Rattle.cc_sorts.specs.SortViews.{members_at};
 ghost use Rattle.cc_sorts.specs.Tables.{IsSignatureOf};
 
-use crate::puts::put_last;
 use crate::register::Register;
 use crate::table::Placed;
 use cc_defs::{Const, Fault, Kind, LimitAt, Nums, OutOfMemory, Refusal, Sig, Symbol};
@@ -58,7 +57,7 @@ fn longer_rows(
         (rows.new.items ≡ rows.old.items ++ map (λ object. row.now ++ object ∷ []) objects.now) }
 {
     for object in objects {
-        put_last(rows, longer_row(alloc, row, *object)?)?;
+        rows.push(longer_row(alloc, row, *object)?)?;
     }
     Ok(())
 }
@@ -264,7 +263,7 @@ impl Register {
         ensures { IfOk result (λ rows. rows.items ≡ rows_by (shown self.now).sorts sorts.now) }
     {
         let mut rows = Vec::new(alloc);
-        put_last(&mut rows, Nums::of(Vec::new(alloc)))?;
+        rows.push(Nums::of(Vec::new(alloc)))?;
         for sort in sorts {
             rows = with_objects(alloc, &rows, self.members(*sort))?;
         }
@@ -290,7 +289,7 @@ impl Register {
                 kind: symbol.kind,
                 domain: self.values(alloc, symbol)?,
             };
-            put_last(written, constant)?;
+            written.push(constant)?;
         }
         Ok(())
     }

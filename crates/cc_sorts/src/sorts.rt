@@ -13,7 +13,7 @@ ghost use Rattle.cc_sorts.specs.SortViews.{SortsView, no_sorts, first_sorts, nam
 use crate::dictionary::Dictionary;
 use crate::lists::{Moves, make_room, put_lists, unite_each};
 use crate::numbers::has;
-use crate::puts::{filled, put_key, put_last};
+use crate::puts::put_key;
 use cc_defs::OutOfMemory;
 use std::alloc::Global;
 use std::collections::HashSet;
@@ -27,7 +27,6 @@ struct SortPair {
 }
 
 /// Sorts by number, `boolean` first. A sort has the objects declared of it and of the sorts below it.
-#[derive(Drop)]
 pub(crate) struct Sorts {
     names: Dictionary<()>,
     /// In the order in which they were put.
@@ -42,6 +41,21 @@ pub(crate) struct Sorts {
     members: Vec<Vec<u32>>,
     /// Room to move numbers when others are put before them. It is kept here so that an object that is added finds it.
     moved: Vec<u32>,
+}
+
+// By hand, so that whoever lets them go has one call there, and not a drop for each field.
+impl Drop for Sorts {
+    fn drop(self) {
+        let Sorts {
+            names: _,
+            pairs: _,
+            known: _,
+            above: _,
+            below: _,
+            members: _,
+            moved: _,
+        } = self;
+    }
 }
 
 fn make_room_for_pair(
@@ -70,7 +84,7 @@ fn record_pair(
     ensures pairs { pairs.new.items ≡ pairs.old.items ++ pair ∷ [] }
     ensures known { AreKnown known.new.keys (known.old.keys ++ pair ∷ []) }
 {
-    put_last(pairs, pair)?;
+    pairs.push(pair)?;
     put_key(known, pair)
 }
 
@@ -114,8 +128,8 @@ impl Sorts {
         ensures { IfOk result (λ sorts. sorts ≡ first_sorts) }
     {
         let mut sorts = Sorts::empty(alloc);
-        let added = sorts.add_boolean(alloc);
-        filled(sorts, added)
+        sorts.add_boolean(alloc)?;
+        Ok(sorts)
     }
 
     fn add_boolean(&mut self, alloc: Global) -> Result<(), OutOfMemory>

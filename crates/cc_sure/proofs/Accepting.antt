@@ -1,7 +1,8 @@
 -- The log of a fair run in which no search was spent is accepted.
 use Rattle.std.proofs.Common.{◌≡◌, ◌∙◌, ℕ, zero, suc, ◌+◌, ◌≤◌, ◌⊎◌, inl, inr, List, [], ◌∷◌, ◌++◌, map, flat_map, length, Option, Some, None, refl, sym, subst, ap, arith, append_assoc}
-use Rattle.std.specs.Prelude.{IfSome, IsNone}
+use Rattle.std.specs.Prelude.{IfSome, IsNone, false}
 use Rattle.std.specs.List.{AllByRecursion}
+use Rattle.cc_check.specs.declared.silent.Place.{Place}
 use Rattle.cc_check.specs.declared.silent.SilentVerdict.TheVariants as verdicts
 use Rattle.cc_check.specs.Silent.{BeginsSection, LeadsTo, SilentSection}
 use Rattle.cc_defs.specs.declared.log.EndWord.TheVariants as words
@@ -79,13 +80,15 @@ module _ (d : Description) (q : Query) (budget horizon : ℕ) where
   abbrev IsGoodTold : SureTold → Type 0
   IsGoodTold told = IsTrueTold told × IsWritableTold d q horizon told
 
-  -- the texts from a line on: sections, as many as atoms are told to be impossible
-  record IsLed (line : ℕ) (texts : List (List ℕ)) (count : ℕ) : Type 0 where
+  abbrev behind : ℕ → Place
+  behind before = record { before = before; is_closed = false }
+
+  -- the texts from a line on, behind so many sections: sections, as many as atoms are told to be impossible
+  record IsLed (before line : ℕ) (texts : List (List ℕ)) (count : ℕ) : Type 0 where
     pub begins : BeginsSection (sure_subject d q) texts
     pub sections : List (SilentSection AtomHeading)
     pub after : ℕ
-    pub leads : LeadsTo (sure_subject d q) (λ _. Unit {0}) line texts sections after []
-    pub as_many : length sections ≡ count
+    pub leads : LeadsTo (sure_subject d q) (λ _. Unit {0}) (behind before) line texts sections (behind (before + count)) after []
 
   abbrev texts_of : List SureTold → List (List ℕ)
   texts_of told = lines_in (flat_map (sure_lines horizon) told)
@@ -102,10 +105,10 @@ module _ (d : Description) (q : Query) (budget horizon : ℕ) where
       ap lines_in (append_assoc heading inside rest) ∙ heading_cut horizon position value (inside ++ rest) short in_row at_value
       ∙ ap (λ (texts : List (List ℕ)). heading ∷ texts) (lines_cut (section_lines section) rest formed)
 
-  section_led : (position value : ℕ) (section : Section) (others : List SureTold) (line : ℕ) → IsShort horizon → IsGoodTold (NeverSo position value section) →
-      IsLed (line + 1 + length (map line_text (section_lines section))) (texts_of others) (count_of others) →
-      IsLed line (atom_heading horizon position value ∷ (map line_text (section_lines section) ++ texts_of others)) (suc (count_of others))
-  section_led position value section others line short good next =
+  section_led : (position value : ℕ) (section : Section) (others : List SureTold) (before line : ℕ) → IsShort horizon → IsGoodTold (NeverSo position value section) →
+      IsLed (before + 1) (line + 1 + length (map line_text (section_lines section))) (texts_of others) (count_of others) →
+      IsLed before line (atom_heading horizon position value ∷ (map line_text (section_lines section) ++ texts_of others)) (suc (count_of others))
+  section_led position value section others before line short good next =
       let heading = heading_at position value in
       let ((range, looks, ends), (in_row, at_value, formed, good_axioms)) = good in
       let reads : IsAtomHeading (atom_heading horizon position value) heading = record { horizon = short; position = in_row; value = at_value; spelled = refl } in
@@ -125,24 +128,25 @@ module _ (d : Description) (q : Query) (budget horizon : ℕ) where
             inside = all_unread (section_lines section) (lines_within section ends);
             next = next.begins;
           },
-          (range, tt, (Right words.Empty 0 last, found, refl)),
-          next.leads,
+          ((refl, range), tt, (Right words.Empty 0 last, found, refl)),
+          subst (λ (n : ℕ). LeadsTo (sure_subject d q) (λ _. Unit {0}) (behind (before + 1)) (line + 1 + length inside) (texts_of others) next.sections (behind n) next.after [])
+              (let e : before + 1 + count_of others ≡ before + suc (count_of others) = omega arith in e) next.leads,
         );
-        as_many = ap suc next.as_many;
       }
 
-  told_led : (told : List SureTold) (line : ℕ) → IsShort horizon → AllByRecursion IsGoodTold told → IsLed line (texts_of told) (count_of told)
-  told_led [] line short good = record { begins = tt; sections = []; after = line; leads = (refl, refl); as_many = refl }
-  told_led (NoneAt empty ∷ others) line short good = told_led others line short good.1
-  told_led (ExampleIs number row ∷ others) line short good = told_led others line short good.1
-  told_led (AnswersAre position answers ∷ others) line short good = told_led others line short good.1
-  told_led (Ends sought Complete ∷ others) line short good = told_led others line short good.1
-  told_led (Ends sought NoneAtAll ∷ others) line short good = told_led others line short good.1
-  told_led (Ends sought (Spent section) ∷ others) line short good = absurd good.0.0
-  told_led (NeverSo position value section ∷ others) line short good =
-      subst (λ (texts : List (List ℕ)). IsLed line texts (suc (count_of others)))
+  told_led : (told : List SureTold) (before line : ℕ) → IsShort horizon → AllByRecursion IsGoodTold told → IsLed before line (texts_of told) (count_of told)
+  told_led [] before line short good =
+      record { begins = tt; sections = []; after = line; leads = (ap behind (let e : before + 0 ≡ before = omega arith in e), refl, refl) }
+  told_led (NoneAt empty ∷ others) before line short good = told_led others before line short good.1
+  told_led (ExampleIs number row ∷ others) before line short good = told_led others before line short good.1
+  told_led (AnswersAre position answers ∷ others) before line short good = told_led others before line short good.1
+  told_led (Ends sought Complete ∷ others) before line short good = told_led others before line short good.1
+  told_led (Ends sought NoneAtAll ∷ others) before line short good = told_led others before line short good.1
+  told_led (Ends sought (Spent section) ∷ others) before line short good = absurd good.0.0
+  told_led (NeverSo position value section ∷ others) before line short good =
+      subst (λ (texts : List (List ℕ)). IsLed before line texts (suc (count_of others)))
       (sym (section_cut position value section (flat_map (sure_lines horizon) others) short good.0))
-      (section_led position value section others line short good.0 (told_led others (line + 1 + length (map line_text (section_lines section))) short good.1))
+      (section_led position value section others before line short good.0 (told_led others (before + 1) (line + 1 + length (map line_text (section_lines section))) short good.1))
 
 -- ---- the run
 
@@ -194,6 +198,7 @@ pub logs_are_accepted : SureLogsAreAccepted
 logs_are_accepted d q budget run fair unspent short writable =
     let horizon = sure_horizon q run in
     let told = sure_told q run in
-    let led = told_led d q budget horizon told 2 short
+    let led = told_led d q budget horizon told 0 2 short
     (all_both (IsTrueTold d q budget horizon) (IsWritableTold d q horizon) told (told_true d q budget run fair unspent) writable) in
-    inr (refl, (led.sections, led.after, [], led.leads, ap verdicts.Accepted (sym led.as_many)))
+    let count = length (flat_map never_of told) in
+    inr (refl, (led.sections, record { before = 0 + count; is_closed = false }, led.after, [], led.leads, ap verdicts.Accepted (let e : count ≡ 0 + count = omega arith in e)))

@@ -1,11 +1,13 @@
 -- The events of a run on certain and possible atoms grow by those of each turn.
 use Rattle.std.proofs.Common.{◌≡◌, ◌≢◌, ◌⊎◌, ◌∙◌, refl, sym, ap, subst, ℕ, zero, suc, ◌+◌, List, [], ◌∷◌, ◌++◌, flat_map, length, map, Option, Some, None, inl, inr, append_assoc, append-nil}
 use Rattle.std.specs.Prelude.{IsNone}
+use Rattle.std.specs.List.{AllByRecursion}
 use Rattle.std.proofs.lemmas.Grind.{flat_map-append}
 use Rattle.cc_defs.specs.declared.log.LogLine.{LogLine}
 use Rattle.cc_defs.specs.Resolved.{Query}
 use Rattle.cc_defs.specs.Runs.{optional, range_of}
 use Rattle.cc_lists.specs.Sections.{section_lines}
+use Rattle.cc_lists.proofs.Members.{all_append}
 use Rattle.cc_sure.specs.declared.event.SureEvent.{SureEvent}
 use Rattle.cc_sure.specs.declared.event.SureEvent.TheVariants as events
 use Rattle.cc_sure.specs.declared.turn.SureTurn.{SureTurn}
@@ -33,9 +35,14 @@ BeginsOther (told ∷ others) = IsOther told
 tails : {X : Type 0} (x y : X) (xs ys : List X) → x ∷ xs ≡ y ∷ ys → xs ≡ ys
 tails x y xs ys same = cc
 
-none_events : (first second low count : ℕ) → flat_map (told_events first) (none_told low count ++ []) ≡ flat_map (told_events second) (none_told low count ++ [])
-none_events first second low zero = refl
-none_events first second low (suc count) = ap (λ (l : List SureEvent). events.NoHistory low ∷ l) (none_events first second (low + 1) count)
+none_alike : {Y : Type 0} (f : ℕ → SureTold → List Y) → ((a b empty : ℕ) → f a (NoneAt empty) ≡ f b (NoneAt empty)) → (first second low count : ℕ) →
+    flat_map (f first) (none_told low count) ≡ flat_map (f second) (none_told low count)
+none_alike f alike first second low zero = refl
+none_alike f alike first second low (suc count) = λ i. alike first second low i ++ none_alike f alike first second (low + 1) count i
+
+none_all : (P : SureTold → Type 0) → ((empty : ℕ) → P (NoneAt empty)) → (low count : ℕ) → AllByRecursion P (none_told low count)
+none_all P each low zero = tt
+none_all P each low (suc count) = (each low, none_all P each (low + 1) count)
 
 as_many : (low count more : ℕ) (one : SureTold) (others behind : List SureTold) → IsOther one → BeginsOther behind →
     none_told low count ++ one ∷ others ≡ none_told low more ++ behind → count ≡ more
@@ -44,16 +51,6 @@ as_many low zero (suc more) one others behind other begins same = absurd (subst 
 as_many low (suc count) zero one others behind other begins same = absurd (subst BeginsOther (sym same) begins)
 as_many low (suc count) (suc more) one others behind other begins same =
     ap suc (as_many (low + 1) count more one others behind other begins (tails _ _ _ _ same))
-
--- what was told before is told by the same events behind something more
-kept_events : (low count more : ℕ) (others behind : List SureTold) (told : SureTold) → BeginsOther others → BeginsOther behind →
-    none_told low more ++ behind ≡ (none_told low count ++ others) ++ told ∷ [] →
-    flat_map (told_events (low + more)) (none_told low count ++ others) ≡ flat_map (told_events (low + count)) (none_told low count ++ others)
-kept_events low count more [] behind told begins begins_so same = none_events (low + more) (low + count) low count
-kept_events low count more (one ∷ others) behind told begins begins_so same =
-    let many = as_many low count more one (others ++ told ∷ []) behind begins begins_so
-    (sym (append_assoc (none_told low count) (one ∷ others) (told ∷ [])) ∙ sym same) in
-    ap (λ (n : ℕ). flat_map (told_events (low + n)) (none_told low count ++ one ∷ others)) (sym many)
 
 -- ---- what is told behind them
 
@@ -84,17 +81,53 @@ begins_other run begun = by run.empty run.first run.done run.next run.ending beg
         subst (λ (s : List Settled). BeginsOther (behind_none (record { empty = empty; first = None; done = s; next = next; ending = ending }))) (sym bare)
         (subst (λ (t : List Tried). BeginsOther (behind_none (record { empty = empty; first = None; done = []; next = t; ending = ending }))) (sym blank) (ends ending))
 
-pub sure_grows : (q : Query) (run after : SureRun) (told : SureTold) → IsBegun run → IsBegun after → sure_told q after ≡ sure_told q run ++ told ∷ [] →
-    sure_events q after ≡ sure_events q run ++ told_events (sure_horizon q after) told
-sure_grows q run after told begun begun_after is =
-    let here = told_events (sure_horizon q after) in
-    let none = none_told (range_of q).0 run.empty in
-    let front : sure_told q run ≡ none ++ behind_none run = apart none _ _ _ _ in
-    let back : sure_told q after ≡ none_told (range_of q).0 after.empty ++ behind_none after = apart (none_told (range_of q).0 after.empty) _ _ _ _ in
-    let kept = kept_events (range_of q).0 run.empty after.empty (behind_none run) (behind_none after) told (begins_other run begun) (begins_other after begun_after)
-    (sym back ∙ (is ∙ ap (λ (l : List SureTold). l ++ told ∷ []) front)) in
-    let same : flat_map here (sure_told q run) ≡ sure_events q run = ap (flat_map here) front ∙ (kept ∙ ap (flat_map (told_events (sure_horizon q run))) (sym front)) in
-    ap (flat_map here) is ∙ (flat_map-append here (sure_told q run) (told ∷ []) ∙ (λ i. same i ++ append-nil (here told) i))
+module _ (q : Query) (run after : SureRun) (told : SureTold) (begun : IsBegun run) (begun_after : IsBegun after) (is : sure_told q after ≡ sure_told q run ++ told ∷ []) where
+  abbrev low : ℕ
+  low = (range_of q).0
+
+  -- only horizons without a history were told before, or the run stays at its horizon
+  stays : (sure_told q run ≡ none_told low run.empty) ⊎ (sure_horizon q after ≡ sure_horizon q run)
+  stays = by (behind_none run) (begins_other run begun) refl
+    where
+      front : sure_told q run ≡ none_told low run.empty ++ behind_none run
+      front = apart (none_told low run.empty) _ _ _ _
+
+      back : sure_told q after ≡ none_told low after.empty ++ behind_none after
+      back = apart (none_told low after.empty) _ _ _ _
+
+      by : (others : List SureTold) → BeginsOther others → behind_none run ≡ others →
+          (sure_told q run ≡ none_told low run.empty) ⊎ (sure_horizon q after ≡ sure_horizon q run)
+      by [] begins same = inl (front ∙ (ap (λ (l : List SureTold). none_told low run.empty ++ l) same ∙ append-nil (none_told low run.empty)))
+      by (one ∷ others) begins same =
+          let before : sure_told q run ≡ none_told low run.empty ++ one ∷ others = front ∙ ap (λ (l : List SureTold). none_told low run.empty ++ l) same in
+          inr (ap (λ (n : ℕ). low + n) (sym (as_many low run.empty after.empty one (others ++ told ∷ []) (behind_none after) begins (begins_other after begun_after)
+          (sym (append_assoc (none_told low run.empty) (one ∷ others) (told ∷ [])) ∙ (ap (λ (l : List SureTold). l ++ told ∷ []) (sym before) ∙ (sym is ∙ back))))))
+
+  -- what is told of a run grows by what is told of this, where it is told alike of horizons without a history
+  pub grows_by : {Y : Type 0} (f : ℕ → SureTold → List Y) → ((a b empty : ℕ) → f a (NoneAt empty) ≡ f b (NoneAt empty)) →
+      flat_map (f (sure_horizon q after)) (sure_told q after) ≡ flat_map (f (sure_horizon q run)) (sure_told q run) ++ f (sure_horizon q after) told
+  grows_by f alike =
+      let here = f (sure_horizon q after) in
+      ap (flat_map here) is ∙ (flat_map-append here (sure_told q run) (told ∷ []) ∙ (λ i. kept stays i ++ append-nil (here told) i))
+    where
+      kept : (sure_told q run ≡ none_told low run.empty) ⊎ (sure_horizon q after ≡ sure_horizon q run) →
+          flat_map (f (sure_horizon q after)) (sure_told q run) ≡ flat_map (f (sure_horizon q run)) (sure_told q run)
+      kept (inl only) = ap (flat_map (f (sure_horizon q after))) only
+          ∙ (none_alike f alike (sure_horizon q after) (sure_horizon q run) low run.empty ∙ ap (flat_map (f (sure_horizon q run))) (sym only))
+      kept (inr same) = ap (λ (n : ℕ). flat_map (f n) (sure_told q run)) same
+
+  pub sure_grows : sure_events q after ≡ sure_events q run ++ told_events (sure_horizon q after) told
+  sure_grows = grows_by told_events (λ a b empty. refl)
+
+  -- what is so of all that was told, and of this
+  pub all_more : (P : ℕ → SureTold → Type 0) → ((horizon empty : ℕ) → P horizon (NoneAt empty)) → AllByRecursion (P (sure_horizon q run)) (sure_told q run) →
+      P (sure_horizon q after) told → AllByRecursion (P (sure_horizon q after)) (sure_told q after)
+  all_more P each all more = subst (AllByRecursion (P (sure_horizon q after))) (sym is)
+      (all_append (P (sure_horizon q after)) (sure_told q run) (told ∷ []) (kept stays) (more, tt))
+    where
+      kept : (sure_told q run ≡ none_told low run.empty) ⊎ (sure_horizon q after ≡ sure_horizon q run) → AllByRecursion (P (sure_horizon q after)) (sure_told q run)
+      kept (inl only) = subst (AllByRecursion (P (sure_horizon q after))) (sym only) (none_all (P (sure_horizon q after)) (each (sure_horizon q after)) low run.empty)
+      kept (inr same) = subst (λ (n : ℕ). AllByRecursion (P n) (sure_told q run)) (sym same) all
 
 -- ---- the events of a turn
 

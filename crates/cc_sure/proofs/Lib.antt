@@ -1,11 +1,13 @@
 mod Accepting
 mod Answering
 mod AtomLines
-mod EventsGrow
+pub mod EventsGrow
+mod Fitting
 mod Giving
 pub mod HandingOut
 mod Opening
 mod Refusing
 mod Runs
 pub mod Saying
+mod Stepping
 mod Told

@@ -35,6 +35,10 @@ IsWritableTold d q horizon (NeverSo position value section) =
 IsWritableTold d q horizon (AnswersAre position answers) = Unit {0}
 IsWritableTold d q horizon (Ends sought ending) = Unit {0}
 
+-- all that a run told can be written
+abbrev pub IsWritableRun : Description → Query → SureRun → Type 0
+IsWritableRun d q run = AllByRecursion (IsWritableTold d q (sure_horizon q run)) (sure_told q run)
+
 -- an ending is not that a search was spent
 abbrev pub IsUnspentEnding : SureEnding → Type 0
 IsUnspentEnding Complete = Unit {0}
@@ -48,5 +52,5 @@ IsUnspent run = IfSome run.ending IsUnspentEnding
 -- a checker accepts the log of such a run, with as many sections as atoms were told to be impossible
 abbrev pub SureLogsAreAccepted : Type 0
 SureLogsAreAccepted = (d : Description) (q : Query) (budget : ℕ) (run : SureRun) → IsFairSure d q budget run → IsUnspent run →
-    IsShort (sure_horizon q run) → AllByRecursion (IsWritableTold d q (sure_horizon q run)) (sure_told q run) →
+    IsShort (sure_horizon q run) → IsWritableRun d q run →
     IsSilentVerdict (sure_subject d q) (sure_log q run) (verdicts.Accepted (length (never_told q run)))

@@ -17,7 +17,6 @@ use cc_arena::{GroundQuery, Laws};
 use cc_defs::{Fault, Sig};
 use std::alloc::Global;
 use std::marker::Model;
-use std::mem;
 
 /// A run on what is certain, possible and impossible at the first horizon of a query that has a history, as `SureTurns`, whose
 /// turns it hands out event by event, with the lines of its log: for each atom that no history has the heading of its section and
@@ -79,7 +78,7 @@ impl<'a> Sure<'a> {
     {
         let turn = self.turns.next()?;
         let queued = queue_of(self.alloc, self.turns.horizon(), turn);
-        drop(mem::replace(&mut self.queued, queued));
+        self.queued = queued;
         Ok(())
     }
 

@@ -37,3 +37,10 @@ pub enum SureTurn {
         lines: List<LogLine>,
     },
 }
+
+/// A turn, with the horizon that the run is at.
+#[derive(Drop)]
+pub struct SureStep {
+    pub horizon: u32,
+    pub turn: SureTurn,
+}

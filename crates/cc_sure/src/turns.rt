@@ -27,7 +27,6 @@ use cc_arena::{GroundQuery, Laws};
 use cc_defs::{Fault, List, LogLine, OutOfMemory, Row, Sig};
 use cc_form::Form;
 use cc_lists::form_at;
-use cc_results::{filled, put_last};
 use cc_search::{Outcome, search_one};
 use std::alloc::Global;
 use std::marker::Model;
@@ -150,8 +149,7 @@ impl<'a> SureTurns<'a> {
         requires { IsReady self.old phase }
         ensures { self.new ≡ record self.old { phase = phase } }
     {
-        let before = mem::replace(&mut self.phase, phase);
-        drop(before);
+        self.phase = phase;
     }
 
     // The axioms of the horizon.
@@ -183,7 +181,8 @@ impl<'a> SureTurns<'a> {
         ensures same { IsSame self.old self.new }
     {
         let copy = row.copy(self.alloc)?;
-        filled(copy, put_last(&mut self.examples, row))
+        self.examples.push(row)?;
+        Ok(copy)
     }
 
     // Notes of the value that is next whether no history has it.
@@ -237,16 +236,9 @@ impl<'a> SureTurns<'a> {
         ensures same { IsSame self.old self.new }
     {
         let _last = form.variables();
-        match self.add_example(row) {
-            Ok(row) => {
-                self.stand(Phase::Asking(form));
-                Ok(SureTurn::Example { number: 1, row })
-            }
-            Err(error) => {
-                drop(form);
-                Err(error)
-            }
-        }
+        let row = self.add_example(row)?;
+        self.stand(Phase::Asking(form));
+        Ok(SureTurn::Example { number: 1, row })
     }
 
     // The horizon has no history.
@@ -303,13 +295,8 @@ impl<'a> SureTurns<'a> {
         ensures same { IsSame self.old self.new }
     {
         let form = self.form()?;
-        match self.search(&form) {
-            Ok(outcome) => Ok(self.looked(form, outcome)?),
-            Err(fault) => {
-                drop(form);
-                Err(fault)
-            }
-        }
+        let outcome = self.search(&form)?;
+        Ok(self.looked(form, outcome)?)
     }
 
     // Looks for a history, where there is one more horizon.
@@ -387,17 +374,10 @@ impl<'a> SureTurns<'a> {
         ensures over { OnErr result (IsOver self.new) }
         ensures same { IsSame self.old self.new }
     {
-        match self.add_found(row) {
-            Ok(row) => {
-                let number = self.count();
-                self.stand(Phase::Asking(form));
-                Ok(SureTurn::Example { number, row })
-            }
-            Err(error) => {
-                drop(form);
-                Err(error)
-            }
-        }
+        let row = self.add_found(row)?;
+        let number = self.count();
+        self.stand(Phase::Asking(form));
+        Ok(SureTurn::Example { number, row })
     }
 
     // No history has the value that is next.
@@ -417,21 +397,13 @@ impl<'a> SureTurns<'a> {
         ensures same { IsSame self.old self.new }
     {
         let (position, value) = self.atom();
-        match self.add_tried(true) {
-            Ok(()) => {
-                self.stand(Phase::Asking(form));
-                Ok(SureTurn::Impossible {
-                    position,
-                    value,
-                    lines,
-                })
-            }
-            Err(error) => {
-                drop(lines);
-                drop(form);
-                Err(error)
-            }
-        }
+        self.add_tried(true)?;
+        self.stand(Phase::Asking(form));
+        Ok(SureTurn::Impossible {
+            position,
+            value,
+            lines,
+        })
     }
 
     // What is told of the search for a history that has the value that is next.
@@ -491,13 +463,8 @@ impl<'a> SureTurns<'a> {
         ensures same { IsSame self.old self.new }
     {
         let (position, value) = self.atom();
-        match self.search_with(&form, position, value) {
-            Ok(outcome) => Ok(self.tried(form, outcome)?),
-            Err(fault) => {
-                drop(form);
-                Err(fault)
-            }
-        }
+        let outcome = self.search_with(&form, position, value)?;
+        Ok(self.tried(form, outcome)?)
     }
 
     // What is answered of each value of the position.
@@ -523,17 +490,10 @@ impl<'a> SureTurns<'a> {
         ensures same { IsSame self.old self.new }
     {
         let (position, _) = self.atom();
-        match self.settled() {
-            Ok(answers) => {
-                self.pass_position();
-                self.stand(Phase::Asking(form));
-                Ok(SureTurn::Answers { position, answers })
-            }
-            Err(error) => {
-                drop(form);
-                Err(error)
-            }
-        }
+        let answers = self.settled()?;
+        self.pass_position();
+        self.stand(Phase::Asking(form));
+        Ok(SureTurn::Answers { position, answers })
     }
 
     // The next value, or the answers of the position.
@@ -569,13 +529,8 @@ impl<'a> SureTurns<'a> {
         ensures over { OnErr result (IsOver self.new) }
         ensures same { IsSame self.old self.new }
     {
-        match self.skip(&form, size) {
-            Ok(()) => self.ask_at(form, size),
-            Err(error) => {
-                drop(form);
-                Err(error.into())
-            }
-        }
+        self.skip(&form, size)?;
+        self.ask_at(form, size)
     }
 
     // What is told next of the positions.

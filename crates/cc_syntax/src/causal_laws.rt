@@ -10,12 +10,10 @@ ghost use Rattle.cc_syntax.specs.Laws.{caused_at, effect_at, worded_at, acted_at
 ghost use Rattle.cc_syntax.specs.Readers.{given, word_at, optional_at};
 ghost use Rattle.cc_syntax.specs.Terms.{term_at};
 ghost use Rattle.cc_syntax.specs.Views.{AreReadable, seen, Reads, Passes};
-ghost use Rattle.cc_syntax.specs.declared.stop.Stop.TheVariants as stops;
 ghost use Rattle.cc_text.specs.Views.{token_views};
 
 use crate::formulas::formula;
-use crate::operators::boxed;
-use crate::reading::{beside, made, made_boxed, placed};
+use crate::reading::{beside, made, made_boxed};
 use crate::stop::Stop;
 use crate::terms::term;
 use crate::tokens::{next_token, word};
@@ -51,7 +49,7 @@ fn optional<'s>(
         (optional_at formula_at text.now (drop at (seen tokens.now))) }
 {
     let Ok(next) = word(tokens, at, text) else {
-        return placed(None, at);
+        return Ok((None, at));
     };
     made(formula(alloc, tokens, next), some_formula)
 }
@@ -69,10 +67,8 @@ fn optional_behind<'s, K: Drop>(
         × Reads (λ both. option_map boxed_tree both.1) tokens.now result (optional_at
         formula_at text.now (drop r.1 (seen tokens.now)))) (λ stop. result ≡ Err stop) }
 {
-    match read {
-        Ok((kept, next)) => beside(kept, optional(alloc, tokens, next, text)),
-        Err(stop) => Err(stop),
-    }
+    let (kept, next) = read?;
+    beside(kept, optional(alloc, tokens, next, text))
 }
 
 /// `F if G`, for any law that has it behind its word.
@@ -230,10 +226,8 @@ fn acting<'s>(
     requires { AreReadable (token_views tokens.now) }
     ensures { Reads (λ law. plain_law law.value) tokens.now result (acting_at (drop at (seen tokens.now))) }
 {
-    match formula(alloc, tokens, at) {
-        Ok((action, next)) => acted(alloc, tokens, next, action),
-        Err(stop) => Err(stop),
-    }
+    let (action, next) = formula(alloc, tokens, at)?;
+    acted(alloc, tokens, next, action)
 }
 
 /// Whether a formula may begin here: no law's own word is a name.
@@ -272,10 +266,8 @@ fn no_concurrency<'s>(alloc: Global, next: usize) -> Result<(Tested<'s>, usize),
         (λ read. trees.Law (plain_law read.0.value) (option_map boxed_tree read.1))
         all result (Some (trees.Law trees.NoConcurrency None, drop next (seen all))) }
 {
-    match boxed(alloc, LawTree::NoConcurrency) {
-        Ok(law) => Ok(((law, None), next)),
-        Err(_) => Err(Stop::OutOfMemory),
-    }
+    let law = Box::new(alloc, LawTree::NoConcurrency)?;
+    Ok(((law, None), next))
 }
 
 /// A law and its test; `noconcurrency` has none.

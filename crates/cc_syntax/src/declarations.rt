@@ -11,7 +11,7 @@ ghost use Rattle.cc_syntax.specs.Views.{AreReadable, seen, Reads};
 ghost use Rattle.cc_text.specs.Views.{token_views};
 
 use crate::items::{Item, listed};
-use crate::reading::{beside, placed};
+use crate::reading::beside;
 use crate::stop::Stop;
 use crate::tokens::{name, numeral, sign, sign_after, word};
 use cc_defs::{
@@ -76,15 +76,11 @@ impl<'s> Item<'s> for SortItem<'s> {
         let (first, next) = name(tokens, at)?;
         if let Ok(behind) = sign(tokens, next, Mark::Above) {
             let lower = names(alloc, tokens, behind, Mark::Above);
-            return match with_first(first, lower) {
-                Ok((names, next)) => placed(SortItem::Chain(List::of(names)), next),
-                Err(stop) => Err(stop),
-            };
+            let (chain, next) = with_first(first, lower)?;
+            return Ok((SortItem::Chain(List::of(chain)), next));
         }
-        match names(alloc, tokens, at, Mark::Comma) {
-            Ok((names, next)) => placed(SortItem::Names(List::of(names)), next),
-            Err(stop) => Err(stop),
-        }
+        let (names, next) = names(alloc, tokens, at, Mark::Comma)?;
+        Ok((SortItem::Names(List::of(names)), next))
     }
 }
 
@@ -161,13 +157,9 @@ impl<'s> Item<'s> for ObjItem<'s> {
 
     #[tactic(auto, unfolding(crate::specs::Declarations::obj_item_at))]
     fn read(alloc: Global, tokens: &[Token<'s>], at: usize) -> Result<(Self, usize), Stop> {
-        match of_sort(tokens, members(alloc, tokens, at)) {
-            Ok(((members, sort), next)) => {
-                let members = List::of(members);
-                placed(ObjItem { members, sort }, next)
-            }
-            Err(stop) => Err(stop),
-        }
+        let ((members, sort), next) = of_sort(tokens, members(alloc, tokens, at))?;
+        let members = List::of(members);
+        Ok((ObjItem { members, sort }, next))
     }
 }
 
@@ -183,13 +175,9 @@ impl<'s> Item<'s> for ListItem<'s> {
 
     #[tactic(auto, unfolding(crate::specs::Declarations::list_item_at))]
     fn read(alloc: Global, tokens: &[Token<'s>], at: usize) -> Result<(Self, usize), Stop> {
-        match of_sort(tokens, names(alloc, tokens, at, Mark::Comma)) {
-            Ok(((names, sort), next)) => {
-                let names = List::of(names);
-                placed(ListItem { names, sort }, next)
-            }
-            Err(stop) => Err(stop),
-        }
+        let ((names, sort), next) = of_sort(tokens, names(alloc, tokens, at, Mark::Comma))?;
+        let names = List::of(names);
+        Ok((ListItem { names, sort }, next))
     }
 }
 
@@ -293,10 +281,8 @@ fn attribute<'s>(
 {
     let (sort, next) = parenthesized(tokens, at)?;
     let next = word(tokens, next, "of")?;
-    match Shape::read(alloc, tokens, next) {
-        Ok((action, next)) => placed(KindTree::Attribute(sort, action), next),
-        Err(stop) => Err(stop),
-    }
+    let (action, next) = Shape::read(alloc, tokens, next)?;
+    Ok((KindTree::Attribute(sort, action), next))
 }
 
 /// The kind of constants.
@@ -325,13 +311,9 @@ impl<'s> Item<'s> for ConstItem<'s> {
     #[tactic(auto, unfolding(crate::specs::Declarations::const_item_at))]
     fn read(alloc: Global, tokens: &[Token<'s>], at: usize) -> Result<(Self, usize), Stop> {
         let (shapes, next) = sign_after(tokens, shapes(alloc, tokens, at), Mark::DoubleColon)?;
-        match beside(shapes, kind(alloc, tokens, next)) {
-            Ok(((shapes, kind), next)) => {
-                let shapes = List::of(shapes);
-                placed(ConstItem { shapes, kind }, next)
-            }
-            Err(stop) => Err(stop),
-        }
+        let (kind, next) = kind(alloc, tokens, next)?;
+        let shapes = List::of(shapes);
+        Ok((ConstItem { shapes, kind }, next))
     }
 }
 

@@ -1,9 +1,6 @@
 //! Readers of formulas. What is open is held in a list, so that no sign, bracket or operator costs a nested call.
-ghost use Rattle.std.specs.Prelude.{◌≡◌, suc, List, ◌∷◌, length, drop, map, option_map, IfOk, Some, Ok, Err};
-ghost use Rattle.std.specs.Result.{MatchResult};
+ghost use Rattle.std.specs.Prelude.{◌≡◌, suc, List, ◌∷◌, length, drop, map, option_map, Some};
 ghost use Rattle.cc_defs.specs.declared.token.Token as token;
-ghost use Rattle.cc_syntax.specs.declared.formulas.Turn.TheVariants as turns;
-ghost use Rattle.cc_syntax.specs.declared.stop.Stop.TheVariants as stops;
 ghost use Rattle.cc_syntax.specs.declared.frames.Frame.{Frame};
 ghost use Rattle.cc_defs.specs.Trees.{Summed, plain_piece, plain_sum, plain_term, plain_tree};
 ghost use Rattle.cc_defs.specs.declared.token.Mark.TheVariants as marks;
@@ -17,14 +14,14 @@ ghost use Rattle.cc_syntax.specs.Views.{AreReadable, seen, Reads};
 ghost use Rattle.cc_text.specs.Views.{token_views};
 
 use crate::frames::{Frame, Frames, Opening, close};
-use crate::operators::{Comparing, Operator, boxed, next_comparison, next_operator};
-use crate::reading::{both, boxed_read, made, placed};
+use crate::operators::{Comparing, Operator, next_comparison, next_operator};
+use crate::reading::made;
 use crate::stop::Stop;
 use crate::terms::sum;
 use crate::tokens::{name, sign, sign_after};
 use cc_defs::{Addend, Mark, Piece, SumTree, TermTree, Token, Tree};
 use smallvec::SmallVec;
-use std::alloc::{AllocError, Global};
+use std::alloc::Global;
 
 /// The strength of a whole formula: no operator's is greater.
 const WHOLE: u8 = 4;
@@ -95,7 +92,7 @@ fn bare<'s>(tokens: &[Token<'s>], sum: SumTree<'s>, at: usize) -> Result<(Tree<'
         (bare_at (plain_sum sum.entry) (drop at (seen tokens.now))) }
 {
     match alone(sum) {
-        Some(term) => placed(Tree::Bare(term), at),
+        Some(term) => Ok((Tree::Bare(term), at)),
         None => Err(Stop::NoTree),
     }
 }
@@ -112,11 +109,10 @@ fn compared<'s>(
     ensures { Reads plain_tree tokens.now result
         (side_at (compared_as comparing) (plain_sum left.entry) (drop at (seen tokens.now))) }
 {
-    let right = boxed_read(alloc, sum(alloc, tokens, at));
-    match both(boxed(alloc, left), right) {
-        Ok(((left, right), next)) => placed(comparing.compared(left, right), next),
-        Err(stop) => Err(stop),
-    }
+    let left = Box::new(alloc, left)?;
+    let (right, next) = sum(alloc, tokens, at)?;
+    let right = Box::new(alloc, right)?;
+    Ok((comparing.compared(left, right), next))
 }
 
 /// Two sums with the sign of a comparison between them, or a term alone.
@@ -141,16 +137,6 @@ fn opened<'s>(frames: &mut Frames<'s>, frame: Frame<'s>, next: usize) -> Result<
     Ok(Turn::Wants(next))
 }
 
-/// An operand that was read, up to the place.
-fn has<'s>(read: Result<(Box<Tree<'s>>, usize), Stop>) -> Result<Turn<'s>, Stop>
-    ensures { MatchResult read.entry (λ r. result ≡ Ok (turns.Has r.0 r.1)) (λ stop. result ≡ Err stop) }
-{
-    match read {
-        Ok((tree, next)) => Ok(Turn::Has(tree, next)),
-        Err(stop) => Err(stop),
-    }
-}
-
 /// An operand is wanted: opens a frame, or reads an atom.
 #[tactic(auto, unfolding(crate::specs::Formulas::begun))]
 fn begin<'s>(
@@ -165,19 +151,12 @@ fn begin<'s>(
 {
     match opening(tokens, at) {
         Ok((opening, next)) => opened(frames, Frame::Opened(opening), next),
-        Err(Stop::NoTree) => has(boxed_read(alloc, atom(alloc, tokens, at))),
+        Err(Stop::NoTree) => {
+            let (tree, next) = atom(alloc, tokens, at)?;
+            let tree = Box::new(alloc, tree)?;
+            Ok(Turn::Has(tree, next))
+        }
         Err(Stop::OutOfMemory) => Err(Stop::OutOfMemory),
-    }
-}
-
-/// An operand that was made, up to the place.
-fn has_made<'s>(made: Result<Box<Tree<'s>>, AllocError>, next: usize) -> Result<Turn<'s>, Stop>
-    ensures { MatchResult made.entry (λ tree. result ≡ Ok (turns.Has tree next))
-        (λ _. result ≡ Err stops.OutOfMemory) }
-{
-    match made {
-        Ok(tree) => Ok(Turn::Has(tree, next)),
-        Err(_) => Err(Stop::OutOfMemory),
     }
 }
 
@@ -195,10 +174,9 @@ fn shut_frame<'s>(
       plain_tree tree.entry.value,
     ) (drop at (seen tokens.now))) }
 {
-    match sign(tokens, at, frame.closing()) {
-        Ok(next) => has_made(frame.filled(alloc, tree), next),
-        Err(stop) => Err(stop),
-    }
+    let next = sign(tokens, at, frame.closing())?;
+    let tree = frame.filled(alloc, tree)?;
+    Ok(Turn::Has(tree, next))
 }
 
 /// No operator follows an operand: it is the formula, or its bracket closes the innermost frame.

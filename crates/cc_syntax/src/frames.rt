@@ -4,7 +4,7 @@ ghost use Rattle.cc_defs.specs.Trees.{plain_tree};
 ghost use Rattle.cc_syntax.specs.Formulas.{plain_frame, stack, filled, ends_before, closed, closing};
 ghost use Rattle.cc_syntax.specs.Turns.{Popped};
 
-use crate::operators::{Operator, boxed};
+use crate::operators::Operator;
 use cc_defs::{Mark, Tree};
 use smallvec::SmallVec;
 use std::alloc::{AllocError, Global};
@@ -63,7 +63,7 @@ impl<'s> Frame<'s> {
         ensures { IfOk result (λ whole.
             plain_tree whole.value ≡ filled (plain_frame self.entry) (plain_tree tree.entry.value)) }
     {
-        boxed(alloc, self.whole(tree))
+        Ok(Box::new(alloc, self.whole(tree))?)
     }
 
     /// Whether its operand ends before an operator whose left operand has at most the strength.

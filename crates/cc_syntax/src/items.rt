@@ -3,7 +3,6 @@ ghost use Rattle.std.specs.Prelude.{◌≡◌, drop, map};
 ghost use Rattle.cc_syntax.specs.Readers.{listed_at};
 ghost use Rattle.cc_syntax.specs.Views.{seen, Reads};
 
-use crate::reading::put_last;
 use crate::stop::Stop;
 use crate::tokens::sign;
 use cc_defs::{Mark, Token};
@@ -45,7 +44,7 @@ pub(crate) fn listed<'s, X: Item<'s>>(
     let mut next = at;
     for _ in at..tokens.len() {
         let (item, after) = X::read(alloc, tokens, next)?;
-        put_last(&mut items, item)?;
+        items.push(item)?;
         match sign(tokens, after, mark) {
             Ok(behind) => next = behind,
             Err(_) => return Ok((items, after)),

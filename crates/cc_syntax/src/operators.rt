@@ -1,5 +1,5 @@
 //! The operators of formulas, a table of their strengths, and the signs of comparisons.
-ghost use Rattle.std.specs.Prelude.{◌≡◌, drop, option_map, IfOk};
+ghost use Rattle.std.specs.Prelude.{◌≡◌, drop, option_map};
 ghost use Rattle.cc_defs.specs.Trees.{plain_sum, plain_tree};
 ghost use Rattle.cc_defs.specs.Trees as trees;
 ghost use Rattle.cc_syntax.specs.Operators.{operator_at, strength, left_strength, joined, compared_as, comparison_at};
@@ -7,7 +7,6 @@ ghost use Rattle.cc_syntax.specs.Views.{seen};
 
 use crate::tokens::next_token;
 use cc_defs::{Mark, SumTree, Token, TokenKind, Tree};
-use std::alloc::{AllocError, Global};
 
 /// An operator between two formulas. The strength of one that binds less is greater: `&` groups first, `<->` last.
 #[derive(Clone, Copy)]
@@ -58,14 +57,6 @@ impl Operator {
             Operator::Same => return Tree::Same(left, right),
         }
     }
-}
-
-/// Something in a box. It is of any type, so that its drop is one call.
-pub(crate) fn boxed<T: Drop>(alloc: Global, made: T) -> Result<Box<T>, AllocError>
-    ensures { IfOk result (λ place. place.value ≡ made) }
-{
-    let place = Box::new(alloc, made)?;
-    Ok(place)
 }
 
 /// The operator at the place, and the place behind it.

@@ -10,7 +10,6 @@ ghost use Rattle.cc_text.specs.Views.{token_views};
 
 use crate::formulas::formula;
 use crate::items::{Item, listed};
-use crate::reading::put_boxed;
 use crate::stop::Stop;
 use crate::tokens::{label, numeral, sign, word};
 use cc_defs::{At, List, Mark, QueryItem, Token, Tree};
@@ -31,7 +30,7 @@ fn formulas<'s>(
     let mut next = at;
     for _ in at..tokens.len() {
         let (item, after) = formula(alloc, tokens, next)?;
-        put_boxed(&mut formulas, item)?;
+        formulas.push(Box::into_inner(item))?;
         match sign(tokens, after, Mark::Comma) {
             Ok(behind) => next = behind,
             Err(_) => return Ok((formulas, after)),
@@ -53,14 +52,10 @@ fn condition<'s>(
         (condition_at claim step (drop at (seen tokens.now))) }
 {
     let next = sign(tokens, at, Mark::Colon)?;
-    match formulas(alloc, tokens, next) {
-        Ok((parts, next)) => {
-            let parts = List::of(parts);
-            let at = step;
-            Ok((QueryItem::Condition { claim, at, parts }, next))
-        }
-        Err(stop) => Err(stop),
-    }
+    let (parts, next) = formulas(alloc, tokens, next)?;
+    let parts = List::of(parts);
+    let at = step;
+    Ok((QueryItem::Condition { claim, at, parts }, next))
 }
 
 /// A step: its number, or the last one.

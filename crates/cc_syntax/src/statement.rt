@@ -129,10 +129,8 @@ fn whole<'s>(alloc: Global, tokens: &[Token<'s>]) -> Result<Box<Part<'s>>, Stop>
         statement_at (seen tokens.now) ≡ Some (plain_part part.value)) }
     ensures none { result ≡ Err stops.NoTree → statement_at (seen tokens.now) ≡ None }
 {
-    match part(alloc, tokens, 0) {
-        Ok((part, next)) => ends(tokens, next).then_some(part).ok_or(Stop::NoTree),
-        Err(stop) => Err(stop),
-    }
+    let (part, next) = part(alloc, tokens, 0)?;
+    ends(tokens, next).then_some(part).ok_or(Stop::NoTree)
 }
 
 /// The word of a directive.
@@ -209,14 +207,9 @@ pub fn parse<'s>(alloc: Global, file: u32, tokens: &[Token<'s>]) -> Result<State
     ensures refused { IfErr result (HasRefused file (token_views tokens.now)) }
 {
     let line = tokens[0].line;
-    match said(alloc, file, tokens) {
-        Ok(part) => Ok(Statement { part, line }),
-        Err(fault) => Err(fault),
-    }
+    let part = said(alloc, file, tokens)?;
+    Ok(Statement { part, line })
 }
 
-/// Lets a statement go. What that takes is proved here once, and not again by each crate that reads statements.
-pub fn discard(statement: Statement<'_>) {
-    let Statement { part, .. } = statement;
-    drop(part);
-}
+/// Lets a statement go.
+pub fn discard(_statement: Statement<'_>) {}

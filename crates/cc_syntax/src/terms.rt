@@ -5,7 +5,6 @@ ghost use Rattle.cc_syntax.specs.Terms.{plain_addend, addends_of, call_at, leaf_
 ghost use Rattle.cc_syntax.specs.Views.{AreReadable, seen, Reads};
 ghost use Rattle.cc_text.specs.Views.{token_views};
 
-use crate::reading::put_last;
 use crate::stop::Stop;
 use crate::tokens::{name, next_token, numeral, sign, sign_after};
 use crate::words::{is_reserved_word, is_word_of_value};
@@ -93,7 +92,7 @@ fn addends_within<'s>(
             return Ok((addends, next));
         };
         let (piece, after) = piece_within(alloc, tokens, behind, steps)?;
-        put_last(&mut addends, Addend { minus, piece })?;
+        addends.push(Addend { minus, piece })?;
         next = after;
     }
     Ok((addends, next))
@@ -141,7 +140,7 @@ fn term_within<'s>(
     let mut args = Vec::new(alloc);
     for left in (0..steps - 1).rev() {
         let (arg, after) = sum_within(alloc, tokens, next, left)?;
-        put_last(&mut args, arg)?;
+        args.push(arg)?;
         match sign(tokens, after, Mark::Comma) {
             Ok(behind) => next = behind,
             Err(_) => {

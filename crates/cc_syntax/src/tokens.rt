@@ -67,10 +67,8 @@ pub(crate) fn sign_after<K: Drop>(
         × PassesBehind tokens.now result (sign_at mark (drop r.1 (seen tokens.now))))
         (λ stop. result ≡ Err stop) }
 {
-    match read {
-        Ok((kept, next)) => sign_behind(tokens, next, mark, kept),
-        Err(stop) => Err(stop),
-    }
+    let (kept, next) = read?;
+    sign_behind(tokens, next, mark, kept)
 }
 
 /// The word.

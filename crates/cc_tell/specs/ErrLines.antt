@@ -4,7 +4,7 @@ use Rattle.cc_defs.specs.declared.refusal.Refusal.{Refusal}
 use Rattle.cc_print.specs.Refusals.{refusal_line}
 
 abbrev pub usage_line : List ℕ
-usage_line = codes "usage: ccalc [--mode list|check|make|convert|why|export|models|modelscheck|sure|surecheck|general|generalcheck] [--query LABEL] [--count N] [--budget B] [--after KEY] [--log NAME] [--form 1|2] [--to NAME] [--key KEY] [--horizon M] [--size N] [FILE]" ++ 10 ∷ []
+usage_line = codes "usage: ccalc [--mode list|check|make|convert|why|export|models|modelscheck|sure|surecheck|general|generalcheck|forever|forevercheck] [--query LABEL] [--count N] [--budget B] [--after KEY] [--log NAME] [--form 1|2] [--to NAME] [--key KEY] [--horizon M] [--size N] [FILE]" ++ 10 ∷ []
 
 -- A refusal is told by its line; that of the words by a second one too.
 abbrev pub refusal_text : Refusal → List ℕ → List ℕ

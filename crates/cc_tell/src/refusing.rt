@@ -15,7 +15,7 @@ use std::alloc::Global;
 
 /// The second line of a refusal of the words.
 const USAGE: &str =
-    "usage: ccalc [--mode list|check|make|convert|why|export|models|modelscheck|sure|surecheck|general|generalcheck] [--query LABEL] [--count N] [--budget B] [--after KEY] [--log NAME] [--form 1|2] [--to NAME] [--key KEY] [--horizon M] [--size N] [FILE]\n";
+    "usage: ccalc [--mode list|check|make|convert|why|export|models|modelscheck|sure|surecheck|general|generalcheck|forever|forevercheck] [--query LABEL] [--count N] [--budget B] [--after KEY] [--log NAME] [--form 1|2] [--to NAME] [--key KEY] [--horizon M] [--size N] [FILE]\n";
 
 /// Gives bytes to an output. Stops by a write fault where not all of them could be given.
 pub fn give<D: Desk>(desk: &mut D, to: To, bytes: &[u8]) -> Result<(), Stop>

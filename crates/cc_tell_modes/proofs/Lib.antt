@@ -1,2 +1,4 @@
+mod Printing
 pub mod CauseLines
+pub mod RunsTelling
 pub mod SureLines

@@ -1,5 +1,5 @@
 -- A kind of log for tests: headings of one digit, over clauses that no row meets.
-use Rattle.std.specs.Prelude.{◌≡◌, ℕ, ◌+◌, ◌<◌, ◌≤◌, false, [], ◌∷◌, ◌++◌, codes, Some, None}
+use Rattle.std.specs.Prelude.{◌≡◌, ℕ, ◌+◌, ◌<◌, ◌≤◌, ◌==◌, Bool, false, [], ◌∷◌, ◌++◌, codes, Some, None}
 use Rattle.cc_check.specs.Silent.{SilentSubject}
 use Rattle.cc_defs.specs.declared.lists.Key.{Key}
 use Rattle.cc_defs.specs.Description.{Description}
@@ -22,12 +22,14 @@ only_row = record { horizon = 0; row = [] }
 abbrev pub axioms_behind : Axioms
 axioms_behind = form_of no_description no_question 0 false (Some only_row)
 
--- A heading is a digit and a line feed, and right below 9.
-abbrev pub digits : SilentSubject ℕ
-digits = record {
+-- A heading is a digit and a line feed, and right below 9, wherever it stands; behind 8 nothing may stand.
+abbrev pub digits : (may_stay_open : Bool) → SilentSubject ℕ
+digits may_stay_open = record {
   header = codes "digits" ++ 10 ∷ [];
   Reads = λ text digit. (digit ≤ 9) × (text ≡ (48 + digit) ∷ 10 ∷ []);
-  Right = λ digit. digit < 9;
+  Right = λ before digit. digit < 9;
+  closes = λ digit. digit == 8;
+  may_stay_open = may_stay_open;
   axioms = λ digit. axioms_behind;
   limit = λ digit. None;
 }

@@ -1,5 +1,5 @@
 //! What no clause says of logs of silent sections: that they are accepted, and refused, while there is memory.
-ghost use Rattle.std.specs.Prelude.{◌≡◌, ◌↔◌, ◌<◌, ◌≤◌, IfErr, IfOk, IsTrue, MatchOption, None, OnOk, length};
+ghost use Rattle.std.specs.Prelude.{◌≡◌, ◌↔◌, ◌<◌, ◌≤◌, Bool, IfErr, IfOk, IsTrue, MatchOption, None, OnOk, length};
 ghost use Rattle.cc_check.specs.Silent.{IsUnread, SilentSubject};
 ghost use Rattle.cc_defs.specs.Refusals.{IsRefusedBy};
 ghost use Rattle.cc_arena.specs.GroundViews.{plain_ground_query};
@@ -16,12 +16,16 @@ use cc_form::{Form, clauses};
 use cc_theory::Theory;
 use std::alloc::Global;
 
-// Headings of one digit, over clauses that no row meets; a right one is below 9.
-struct Digits;
+// Headings of one digit, over clauses that no row meets; a right one is below 9, and 8 closes the log.
+#[derive(Drop)]
+struct Digits {
+    may_stay_open: bool,
+}
 
 // The digit that a text is, with a line feed.
 fn digit_of(text: &[u8]) -> Option<u32>
-    ensures { MatchOption result (IsUnread digits text.now) (digits.Reads text.now) }
+    ensures { (stays : Bool) →
+        MatchOption result (IsUnread (digits stays) text.now) ((digits stays).Reads text.now) }
 {
     let [digit, last] = text else {
         return None;
@@ -77,11 +81,13 @@ pub(crate) fn clauses_behind(alloc: Global) -> Result<Form, Fault>
 impl Silent for Digits {
     type Heading = u32;
 
-    ghost Of = { Unit {0} };
+    ghost use Rattle.std.specs.Prelude.{◌≡◌, Bool};
 
-    ghost Is = { λ _ of. Unit {0} };
+    ghost Of = { Bool };
 
-    ghost subject = { λ of. digits };
+    ghost Is = { λ kind of. kind.may_stay_open ≡ of };
+
+    ghost subject = { digits };
 
     ghost can_form = { λ _ heading. Unit {0} };
 
@@ -93,8 +99,16 @@ impl Silent for Digits {
         Ok(digit_of(text))
     }
 
-    fn is_right(&self, heading: &u32) -> bool {
+    fn is_right(&self, _before: u32, heading: &u32) -> bool {
         *heading < 9
+    }
+
+    fn closes(&self, heading: &u32) -> bool {
+        *heading == 8
+    }
+
+    fn may_stay_open(&self) -> bool {
+        self.may_stay_open
     }
 
     fn form(&self, alloc: Global, heading: &u32) -> Result<Form, Fault> {
@@ -103,25 +117,25 @@ impl Silent for Digits {
     }
 }
 
-fn judged(alloc: Global, text: &str) -> Result<SilentVerdict, Fault>
+fn judged(alloc: Global, may_stay_open: bool, text: &str) -> Result<SilentVerdict, Fault>
     requires { length text.now ≤ 100 }
 {
-    judge_silent(alloc, &Digits, text.as_bytes())
+    judge_silent(alloc, &Digits { may_stay_open }, text.as_bytes())
 }
 
-fn is_accepted(alloc: Global, text: &str, count: u32) -> bool
+fn is_accepted(alloc: Global, may_stay_open: bool, text: &str, count: u32) -> bool
     requires { length text.now ≤ 100 }
 {
-    match judged(alloc, text) {
+    match judged(alloc, may_stay_open, text) {
         Ok(verdict) => verdict == SilentVerdict::Accepted { sections: count },
         Err(_) => false,
     }
 }
 
-fn is_refused(alloc: Global, text: &str, line: u32, cause: Cause) -> bool
+fn is_refused(alloc: Global, may_stay_open: bool, text: &str, line: u32, cause: Cause) -> bool
     requires { length text.now ≤ 100 }
 {
-    match judged(alloc, text) {
+    match judged(alloc, may_stay_open, text) {
         Ok(verdict) => verdict == SilentVerdict::Refused { line, cause },
         Err(_) => false,
     }
@@ -138,7 +152,7 @@ fn logs_are_accepted(rt: HostRuntime) {
         ),
     ] {
         if text.len() <= 100 {
-            assert!(rt; is_accepted(rt.alloc(), text, count), "{text}");
+            assert!(rt; is_accepted(rt.alloc(), true, text, count), "{text}");
         }
     }
 }
@@ -161,7 +175,33 @@ fn logs_are_refused(rt: HostRuntime) {
         ("digits\n0\nd 0 1 2 2 0\ne empty\n", 3, Cause::Pivot),
     ] {
         if text.len() <= 100 {
-            assert!(rt; is_refused(rt.alloc(), text, line, cause), "{text}");
+            assert!(rt; is_refused(rt.alloc(), true, text, line, cause), "{text}");
+        }
+    }
+}
+
+#[test]
+fn nothing_stands_behind_a_closed_log(rt: HostRuntime) {
+    for may_stay_open in [false, true] {
+        let text = "digits\n3\nd 0 1 1 2 0\ne empty\n8\nd 0 1 1 2 0\ne empty\n";
+        if text.len() <= 100 {
+            assert!(rt; is_accepted(rt.alloc(), may_stay_open, text, 2));
+        }
+        let text = "digits\n8\nd 0 1 1 2 0\ne empty\n3\nd 0 1 1 2 0\ne empty\n";
+        if text.len() <= 100 {
+            assert!(rt; is_refused(rt.alloc(), may_stay_open, text, 5, Cause::Section));
+        }
+    }
+}
+
+#[test]
+fn a_log_is_to_be_closed(rt: HostRuntime) {
+    for (text, line) in [("digits\n", 2), ("digits\n3\nd 0 1 1 2 0\ne empty\n", 5)] {
+        if text.len() <= 100 {
+            assert!(rt;
+                is_refused(rt.alloc(), false, text, line, Cause::Section),
+                "{text}"
+            );
         }
     }
 }

@@ -1,6 +1,6 @@
 //! A table of words.
 use cc_defs::{OutOfMemory, Version};
-use cc_words::{Asked, CheckAsked, ExplainAsked, ListAsked, read};
+use cc_words::{Asked, CheckAsked, ListAsked, WhyAsked, read};
 use std::alloc::Global;
 use std::test::Fail;
 
@@ -36,9 +36,7 @@ fn ask_alike(one: Asked, other: Asked) -> bool {
     match (one, other) {
         (Asked::List(one), Asked::List(other)) => lists_alike(one, other),
         (Asked::Check(one), Asked::Check(other)) => checks_alike(one, other),
-        (Asked::Explain(one), Asked::Explain(other)) => {
-            one.file == other.file && one.key == other.key
-        }
+        (Asked::Why(one), Asked::Why(other)) => { one.file == other.file && one.key == other.key }
         (
             Asked::Make { size, budget },
             Asked::Make {
@@ -79,7 +77,7 @@ fn words_are_read(rt: HostRuntime) -> Result<(), Fail> {
         after: None,
         log: "l",
     };
-    let why = ExplainAsked {
+    let why = WhyAsked {
         file: "f.cc",
         key: "0:0",
     };
@@ -106,7 +104,7 @@ fn words_are_read(rt: HostRuntime) -> Result<(), Fail> {
         ),
         (
             ["--mode", "why", "--key", "0:0", "f.cc"].as_slice(),
-            Some(Asked::Explain(why)),
+            Some(Asked::Why(why)),
         ),
         (
             ["--mode", "list", "--mode", "list", "f.cc"].as_slice(),

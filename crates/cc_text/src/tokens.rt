@@ -117,10 +117,7 @@ impl<'s> Tokens<'s> {
         ensures read { IfOk result (HasRead bytes.now) }
         ensures refused { IfErr result (HasStopped file bytes.now) }
     {
-        let tokens = match tokens_of(alloc, file, bytes) {
-            Ok(tokens) => tokens,
-            Err(fault) => return Err(fault),
-        };
+        let tokens = tokens_of(alloc, file, bytes)?;
         let ends = ends_of(alloc, &tokens)?;
         Ok(Tokens { tokens, ends })
     }

@@ -1,4 +1,4 @@
--- The completion theorem and the path theorem, and the parts of paths.
+-- The completion theorem and the path theorem, the heads of rules, and the parts of paths.
 use Rattle.std.proofs.Common.{ℕ, zero, suc, ◌+◌, ◌≤◌, List, sym, subst, arith}
 use Rattle.cc_defs.specs.Description.{Description, sizes_at}
 use Rattle.cc_defs.specs.Environments.{instances}
@@ -7,9 +7,9 @@ use Rattle.cc_defs.specs.Rows.{IsRow}
 use Rattle.cc_defs.specs.Rules.{rules_at}
 use Rattle.cc_defs.specs.Theories.{IsModel}
 use Rattle.cc_defs.specs.TimedRules.{TimedRule, timed_rules}
-use Rattle.cc_theory.specs.Laws.{IsGroundedWell, ModelsArePaths, ModelsMeetCompletion, PathsHaveParts, part_of}
+use Rattle.cc_theory.specs.Laws.{HeadsNameAtoms, IsGroundedWell, ModelsArePaths, ModelsMeetCompletion, PathsHaveParts, part_of}
 use Rattle.cc_theory.proofs.Cases.{Case, IsFit, cases, cases_fit, rules_by_cases}
-use Rattle.cc_theory.proofs.Lists.{In, all_in}
+use Rattle.cc_theory.proofs.Lists.{In, all_in, contains_in, in_contains}
 use Rattle.cc_theory.proofs.Local.{IsLocal, local_supported}
 use Rattle.cc_theory.proofs.Members.{heads_fit}
 use Rattle.cc_theory.proofs.Origins.{supported_local}
@@ -46,6 +46,10 @@ module _ (meaning : Meaning) (d : Description) (well : IsGroundedWell d) where
       local_model count (part_of d row start count) (part_row d horizon row start count within m.interprets)
       (part_local d (fits d well) horizon row start count within (model_local horizon row m))
 
+pub heads_name : HeadsNameAtoms
+heads_name d well horizon rule there =
+    heads_fit d horizon (fits d well) rule (subst (λ (l : List TimedRule). In l rule) (rules_by_cases d horizon) (contains_in (timed_rules d horizon) rule there))
+
 pub completion : Meaning → ModelsMeetCompletion
 completion meaning d well horizon row is =
     let sizes = sizes_at d horizon in
@@ -54,7 +58,7 @@ completion meaning d well horizon row is =
     let same = rules_same meaning d well.values horizon in (
       λ m. supported_completion sizes rules timed same row (supported meaning d well horizon row m),
       λ meets. model meaning d well horizon row is (completion_supported sizes rules timed same row
-          (λ t i. heads_fit d horizon (fits d well) t (subst (λ (l : List TimedRule). In l t) (rules_by_cases d horizon) i)) is meets),
+          (λ t i. heads_name d well horizon t (in_contains timed t i)) is meets),
     )
 
 pub paths : Meaning → ModelsArePaths

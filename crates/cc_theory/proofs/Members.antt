@@ -16,10 +16,10 @@ use Rattle.cc_defs.specs.Forms.{is_simple}
 use Rattle.cc_defs.specs.Rules.{upto}
 use Rattle.cc_defs.specs.Terms as terms
 use Rattle.cc_defs.specs.TimedRules.{TimedRule, all_initial_timed, head_at_step, initial_timed}
+use Rattle.cc_theory.specs.Laws.{HeadFits}
 use Rattle.cc_theory.proofs.Cases.{Case, IsFit, by_cases, cases, of_case, of_kind, timed_case}
 use Rattle.cc_theory.proofs.Lists.{In, flat_in, got_either, in_either, in_flat, in_left, in_map, in_right, in_upto, map_in, upto_in}
 use Rattle.cc_theory.proofs.Places.{action_place, fluent_place, size_of}
-use Rattle.cc_theory.proofs.Supported.{HeadFits}
 
 -- ---- the initial rules
 

@@ -11,6 +11,7 @@ use Rattle.cc_defs.specs.Rows.{IsRow}
 use Rattle.cc_defs.specs.Theories.{Rule, IsModel, reduct, satisfies}
 use Rattle.cc_defs.specs.TimedRules.{TimedRule}
 use Rattle.cc_theory.specs.Completion.{IsCause, MeetsCompletion, holds}
+use Rattle.cc_theory.specs.Laws.{HeadFits}
 use Rattle.cc_theory.proofs.Lists.{In, both, both_hold, contains_in, in_contains, row_at, row_set, same_rows}
 
 abbrev pub meets_head : List ℕ → GroundHead → Bool
@@ -103,11 +104,6 @@ search_cause (t ∷ ts) row p v = by (is_atom p v t.head && holds row t.body) re
         | inr more ↦ none u more h holding
       ])
     ]
-
--- a head names a position, and a value of it
-abbrev pub HeadFits : List ℕ → GroundHead → Type 0
-HeadFits sizes (heads.Atom p v) = (size : ℕ) × (slice_get sizes p ≡ Some size) × (v < size)
-HeadFits sizes heads.Falsity = Unit {0}
 
 -- ---- models and supported rows
 

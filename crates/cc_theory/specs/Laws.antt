@@ -1,5 +1,7 @@
 -- What the completion and paths have to do with models (Clark, 1978; Giunchiglia, Lee, Lifschitz, McCain and Turner, 2004).
-use Rattle.std.specs.Prelude.{◌≡◌, ℕ, ◌+◌, ◌*◌, ◌<◌, ◌≤◌, List, take, drop, length, ◌↔◌}
+use Rattle.std.specs.Prelude.{◌≡◌, ℕ, ◌+◌, ◌*◌, ◌<◌, ◌≤◌, List, take, drop, length, slice_get, Some, Contains, ◌↔◌}
+use Rattle.cc_defs.specs.declared.node.GroundHead.{GroundHead}
+use Rattle.cc_defs.specs.declared.node.GroundHead.TheVariants as heads
 use Rattle.cc_defs.specs.Conditions.{AreGroundLaws}
 use Rattle.cc_defs.specs.Description.{Description, sizes_at, stride}
 use Rattle.cc_defs.specs.GroundLaws.{ground_laws}
@@ -8,7 +10,7 @@ use Rattle.cc_defs.specs.Rows.{IsRow}
 use Rattle.cc_defs.specs.Rules.{rules_at}
 use Rattle.cc_defs.specs.Terms.{Ground, IsTermOver, postfix, truth}
 use Rattle.cc_defs.specs.Theories.{IsModel}
-use Rattle.cc_defs.specs.TimedRules.{timed_rules}
+use Rattle.cc_defs.specs.TimedRules.{TimedRule, timed_rules}
 use Rattle.cc_defs.specs.Universe.{HaveOwnValues}
 use Rattle.cc_theory.specs.Completion.{MeetsCompletion}
 
@@ -40,3 +42,12 @@ PathsHaveParts = (d : Description) → IsGroundedWell d → (horizon : ℕ) (row
 abbrev pub TermsRestOnTheirConstants : Type 0
 TermsRestOnTheirConstants = (sizes : List ℕ) (formula : Ground) → IsTermOver sizes (postfix formula) → (v w : ℕ → ℕ) →
     ((constant : ℕ) → constant < length sizes → v constant ≡ w constant) → truth v formula ≡ truth w formula
+
+-- a head names a position, and a value of it
+abbrev pub HeadFits : List ℕ → GroundHead → Type 0
+HeadFits sizes (heads.Atom position value) = (size : ℕ) × (slice_get sizes position ≡ Some size) × (value < size)
+HeadFits sizes heads.Falsity = Unit {0}
+
+-- The head of each rule of a horizon is an atom of it, or falsity.
+abbrev pub HeadsNameAtoms : Type 0
+HeadsNameAtoms = (d : Description) → IsGroundedWell d → (horizon : ℕ) (rule : TimedRule) → Contains (timed_rules d horizon) rule → HeadFits (sizes_at d horizon) rule.head

@@ -1,5 +1,5 @@
 //! Theorems on models, each the contract of a function that does nothing, or calls those that it rests on.
-ghost use Rattle.cc_theory.specs.Laws.{ModelsArePaths, ModelsMeetCompletion, PathsHaveParts, TermsRestOnTheirConstants};
+ghost use Rattle.cc_theory.specs.Laws.{HeadsNameAtoms, ModelsArePaths, ModelsMeetCompletion, PathsHaveParts, TermsRestOnTheirConstants};
 ghost use Rattle.cc_theory.specs.Theories.{LawsGiveRules};
 
 use cc_arena::one_formula;
@@ -24,6 +24,11 @@ pub fn models_are_paths()
     heads_mean_heads();
     heads_there_are_ground();
 }
+
+/// The head of each rule of a horizon is an atom of it, or falsity.
+pub fn heads_name_atoms()
+    ensures { HeadsNameAtoms }
+{}
 
 /// Each run of consecutive states of a path, with the actions between them, is a path.
 pub fn paths_have_parts()

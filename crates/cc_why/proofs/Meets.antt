@@ -15,7 +15,7 @@ use Rattle.cc_defs.specs.Rows.{IsRow}
 use Rattle.cc_defs.specs.Signatures.{Signature, ground_constants}
 use Rattle.cc_defs.specs.TimedRules.{TimedRule, timed_rules}
 use Rattle.cc_theory.specs.Completion.{IsCause, MeetsCompletion, holds}
-use Rattle.cc_theory.specs.Laws.{ModelsArePaths, ModelsMeetCompletion}
+use Rattle.cc_theory.specs.Laws.{HeadFits, ModelsArePaths, ModelsMeetCompletion}
 use Rattle.cc_theory.specs.declared.rule.TimedHead.{TimedHead}
 use Rattle.cc_theory.specs.declared.rule.TimedHead.TheVariants as timed_heads
 use Rattle.cc_theory.specs.declared.rule.TimedRule as made
@@ -50,11 +50,6 @@ passes_cause rules row p e =
     let found = any_in (is_cause row p) rules e in
     let parts = both_hold (is_atom_head p (slice_index row p) found.0.head) (holds row found.0.body) found.2 in
     record { rule = found.0; member = in_contains rules found.0 found.1; head_is = atom_is p (slice_index row p) found.0.head parts.0; body = parts.1 }
-
--- a head names a position, and a value of it
-abbrev pub HeadFits : List ℕ → GroundHead → Type 0
-HeadFits sizes (heads.Atom p v) = (size : ℕ) × (slice_get sizes p ≡ Some size) × (v < size)
-HeadFits sizes heads.Falsity = Unit {0}
 
 only_value : (size a b : ℕ) → a < size → b < size → (1 < size → a ≡ b) → a ≡ b
 only_value zero a b p q e = absurd (omega arith)

@@ -4,6 +4,7 @@
 mod cause;
 mod history;
 mod reasons;
+pub mod theorems;
 
 pub use cause::{Cause, Causes};
 pub use history::is_history;

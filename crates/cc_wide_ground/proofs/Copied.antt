@@ -38,14 +38,13 @@ module _ {X Y Z : Type 0} (plain : X → Y) (left : List Z → List Y) where
       sym (append-nil (map plain copies)) ∙ ap (λ (l : List Y). map plain copies ++ l) (sym none)
       ∙ sym (ap (λ (l : List Z). map plain copies ++ left l) (drop_all i items past)) ∙ e
 
-  pub copied_more : (meant : Z → Y) → ((z : Z) (zs : List Z) → left (z ∷ zs) ≡ meant z ∷ left zs) → (items : List Z) (i : ℕ) (z : Z) (copies new : List X) (made : Result X OutOfMemory) (whole : List Y) → i < length items → z ≡ get_or items i z →
-      IfOk made (λ item. plain item ≡ meant z) → IsOk made → IfOk made (λ item. new ≡ copies ++ item ∷ []) →
+  pub copied_more : (meant : Z → Y) → ((z : Z) (zs : List Z) → left (z ∷ zs) ≡ meant z ∷ left zs) → (items : List Z) (i : ℕ) (z : Z) (copies new : List X) (item : X) (whole : List Y) → i < length items → z ≡ get_or items i z →
+      plain item ≡ meant z → new ≡ copies ++ item ∷ [] →
       map plain copies ++ left (drop i items) ≡ whole → map plain new ++ left (drop (i + 1) items) ≡ whole
-  copied_more meant next items i z copies new (Ok item) whole less at same ok put e =
+  copied_more meant next items i z copies new item whole less at same put e =
       let rest = left (drop (i + 1) items) in
       ap (λ (l : List X). map plain l ++ rest) put ∙ ap (λ (l : List Y). l ++ rest) (map-append plain copies (item ∷ [])) ∙ append_assoc (map plain copies) (plain item ∷ []) rest
       ∙ ap (λ (l : List Y). map plain copies ++ l) (ap (λ (y : Y). y ∷ rest) same ∙ sym (next z (drop (i + 1) items)) ∙ sym (ap left (drop_more items i z less ∙ ap (λ y. y ∷ drop (i + 1) items) (sym at)))) ∙ e
-  copied_more meant next items i z copies new (Err fault) whole less at same ok put e = absurd cc
 
 -- ---- what calls made
 
@@ -60,11 +59,9 @@ nothing_made P (Err given) fault failed = tt
 pub two : {A B C : Type 0} (make : A → B → C) {a b : A} {x y : B} → a ≡ b → x ≡ y → make a x ≡ make b y
 two make {a = a} {b = b} {x = x} {y = y} p q = ap (λ z. make z x) p ∙ ap (make b) q
 
-pub was_made : {X : Type 0} (P : X → Type 0) (result : Result X OutOfMemory) (value inner : X) → IfOk result P → result ≡ Ok value → inner ≡ value → P inner
-was_made P result value inner so is same = subst P (sym same) (subst (λ r. IfOk r P) is so)
-
-pub copied : {X Y : Type 0} (plain : X → Y) (result : Result X OutOfMemory) (value at old : X) → IfOk result (λ copy. plain copy ≡ plain at) → result ≡ Ok value → at ≡ old → plain value ≡ plain old
-copied plain result value at old so is same = subst (λ r. IfOk r (λ copy. plain copy ≡ plain at)) is so ∙ ap plain same
+-- a copy, in its box, of what stands in one
+pub boxed_copy : {X Y : Type 0} (plain : X → Y) {placed copy at old : X} → placed ≡ copy → plain copy ≡ plain at → at ≡ old → plain placed ≡ plain old
+boxed_copy plain is so same = ap plain is ∙ so ∙ ap plain same
 
 -- the head of an equation with a constant
 pub sides_are : (side : kept.Term) (symbol : ℕ) (args : Vec kept.Term) (items : List kept.Term) (value : Term) →

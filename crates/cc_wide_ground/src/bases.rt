@@ -10,7 +10,6 @@ ghost use Rattle.cc_wide_ground.specs.Shares.{base_by, law_by};
 
 use crate::copies::{copy_formula, copy_part, copy_term, copy_terms};
 use cc_defs::{BaseLaw, BaseLaws, Formula, Head, Law, List, OutOfMemory, Term};
-use cc_results::{boxed, put_made};
 use cc_wide::{WideBase, WideLaw};
 use std::alloc::Global;
 
@@ -120,22 +119,21 @@ fn after_of_share(
     }
 }
 
-/// The law by which a share of a law is grounded. Its parts are kept in boxes until all are there, so that letting them go is one
-/// call each.
+/// The law by which a share of a law is grounded.
 fn law_of_share(alloc: Global, share: Share, law: &WideLaw) -> Result<Law, OutOfMemory>
     ensures { IfOk result (λ made. plain_law made ≡ law_by share (plain_wide_law law.now)) }
 {
-    let head = boxed(alloc, atom_head(alloc, &law.head))?;
-    let body = boxed(alloc, copy_formula(alloc, body_of_share(share, law)))?;
-    let after = boxed(alloc, after_of_share(alloc, share, law))?;
-    let test = boxed(alloc, copy_formula(alloc, &law.test))?;
     let ranges = Vec::from_slice(alloc, law.ranges.items())?;
+    let head = atom_head(alloc, &law.head)?;
+    let body = copy_formula(alloc, body_of_share(share, law))?;
+    let after = after_of_share(alloc, share, law)?;
+    let test = copy_formula(alloc, &law.test)?;
     Ok(Law {
         ranges: List::of(ranges),
-        head: Box::into_inner(head),
-        body: Box::into_inner(body),
-        after: Box::into_inner(after),
-        test: Box::into_inner(test),
+        head,
+        body,
+        after,
+        test,
         kind: law.kind,
         file: law.file,
         line: law.line,
@@ -166,7 +164,7 @@ pub(crate) fn bases_of_share(
 {
     let mut made = Vec::with_capacity(alloc, laws.len())?;
     for law in laws {
-        put_made(&mut made, base_of_share(alloc, share, law))?;
+        made.push(base_of_share(alloc, share, law)?)?;
     }
     Ok(List::of(made))
 }

@@ -1,23 +1,10 @@
 //! Copies of terms and formulas.
-ghost use Rattle.std.specs.Prelude.{◌≡◌, map, Ok, IfOk};
+ghost use Rattle.std.specs.Prelude.{◌≡◌, map, IfOk};
 ghost use Rattle.std.specs.Option.{option_map};
 ghost use Rattle.cc_defs.specs.Resolved.{plain_formula, plain_term};
 
 use cc_defs::{Formula, OutOfMemory, Term};
-use cc_results::{both, boxed, put_made};
 use std::alloc::Global;
-
-/// Two things that were made, in boxes.
-fn both_boxed<T: Drop>(
-    alloc: Global,
-    first: Result<T, OutOfMemory>,
-    second: Result<T, OutOfMemory>,
-) -> Result<(Box<T>, Box<T>), OutOfMemory>
-    ensures { IfOk result (λ made.
-        (first ≡ Ok made.0.value) × (second ≡ Ok made.1.value)) }
-{
-    both(boxed(alloc, first), boxed(alloc, second))
-}
 
 /// The same term.
 pub(crate) fn copy_term(alloc: Global, term: &Term) -> Result<Term, OutOfMemory>
@@ -27,7 +14,7 @@ pub(crate) fn copy_term(alloc: Global, term: &Term) -> Result<Term, OutOfMemory>
         Term::Constant { symbol, args } => {
             let mut copies = Vec::with_capacity(alloc, args.len())?;
             for argument in args {
-                put_made(&mut copies, copy_term(alloc, argument))?;
+                copies.push(copy_term(alloc, argument)?)?;
             }
             Ok(Term::Constant {
                 symbol: *symbol,
@@ -39,19 +26,13 @@ pub(crate) fn copy_term(alloc: Global, term: &Term) -> Result<Term, OutOfMemory>
         Term::Nothing => Ok(Term::Nothing),
         Term::Number(number) => Ok(Term::Number(*number)),
         Term::Plus(first, second) => {
-            let (first, second) = both_boxed(
-                alloc,
-                copy_term(alloc, first),
-                copy_term(alloc, second),
-            )?;
+            let first = Box::new(alloc, copy_term(alloc, first)?)?;
+            let second = Box::new(alloc, copy_term(alloc, second)?)?;
             Ok(Term::Plus(first, second))
         }
         Term::Minus(first, second) => {
-            let (first, second) = both_boxed(
-                alloc,
-                copy_term(alloc, first),
-                copy_term(alloc, second),
-            )?;
+            let first = Box::new(alloc, copy_term(alloc, first)?)?;
+            let second = Box::new(alloc, copy_term(alloc, second)?)?;
             Ok(Term::Minus(first, second))
         }
     }
@@ -63,7 +44,7 @@ pub(crate) fn copy_terms(alloc: Global, terms: &[Term]) -> Result<Vec<Term>, Out
 {
     let mut copies = Vec::with_capacity(alloc, terms.len())?;
     for term in terms {
-        put_made(&mut copies, copy_term(alloc, term))?;
+        copies.push(copy_term(alloc, term)?)?;
     }
     Ok(copies)
 }
@@ -76,59 +57,50 @@ pub(crate) fn copy_formula(alloc: Global, formula: &Formula) -> Result<Formula, 
         Formula::True => Ok(Formula::True),
         Formula::False => Ok(Formula::False),
         Formula::Equal(left, right) => {
-            let (left, right) = both(copy_term(alloc, left), copy_term(alloc, right))?;
+            let left = copy_term(alloc, left)?;
+            let right = copy_term(alloc, right)?;
             Ok(Formula::Equal(left, right))
         }
         Formula::Less(left, right) => {
-            let (left, right) = both(copy_term(alloc, left), copy_term(alloc, right))?;
+            let left = copy_term(alloc, left)?;
+            let right = copy_term(alloc, right)?;
             Ok(Formula::Less(left, right))
         }
         Formula::AtMost(left, right) => {
-            let (left, right) = both(copy_term(alloc, left), copy_term(alloc, right))?;
+            let left = copy_term(alloc, left)?;
+            let right = copy_term(alloc, right)?;
             Ok(Formula::AtMost(left, right))
         }
         Formula::Not(inner) => {
-            let inner = boxed(alloc, copy_formula(alloc, inner))?;
+            let inner = Box::new(alloc, copy_formula(alloc, inner)?)?;
             Ok(Formula::Not(inner))
         }
         Formula::Both(left, right) => {
-            let (left, right) = both_boxed(
-                alloc,
-                copy_formula(alloc, left),
-                copy_formula(alloc, right),
-            )?;
+            let left = Box::new(alloc, copy_formula(alloc, left)?)?;
+            let right = Box::new(alloc, copy_formula(alloc, right)?)?;
             Ok(Formula::Both(left, right))
         }
         Formula::Either(left, right) => {
-            let (left, right) = both_boxed(
-                alloc,
-                copy_formula(alloc, left),
-                copy_formula(alloc, right),
-            )?;
+            let left = Box::new(alloc, copy_formula(alloc, left)?)?;
+            let right = Box::new(alloc, copy_formula(alloc, right)?)?;
             Ok(Formula::Either(left, right))
         }
         Formula::Implies(left, right) => {
-            let (left, right) = both_boxed(
-                alloc,
-                copy_formula(alloc, left),
-                copy_formula(alloc, right),
-            )?;
+            let left = Box::new(alloc, copy_formula(alloc, left)?)?;
+            let right = Box::new(alloc, copy_formula(alloc, right)?)?;
             Ok(Formula::Implies(left, right))
         }
         Formula::Same(left, right) => {
-            let (left, right) = both_boxed(
-                alloc,
-                copy_formula(alloc, left),
-                copy_formula(alloc, right),
-            )?;
+            let left = Box::new(alloc, copy_formula(alloc, left)?)?;
+            let right = Box::new(alloc, copy_formula(alloc, right)?)?;
             Ok(Formula::Same(left, right))
         }
         Formula::ForAll(variable, sort, inner) => {
-            let inner = boxed(alloc, copy_formula(alloc, inner))?;
+            let inner = Box::new(alloc, copy_formula(alloc, inner)?)?;
             Ok(Formula::ForAll(*variable, *sort, inner))
         }
         Formula::Exists(variable, sort, inner) => {
-            let inner = boxed(alloc, copy_formula(alloc, inner))?;
+            let inner = Box::new(alloc, copy_formula(alloc, inner)?)?;
             Ok(Formula::Exists(*variable, *sort, inner))
         }
     }

@@ -30,7 +30,7 @@ pub record Checking : Type 0 where
   pub log : Text
 
 -- why a row has its values
-pub record Explaining : Type 0 where
+pub record SayingWhy : Type 0 where
   pub file : Text
   pub key : Text
 
@@ -88,12 +88,25 @@ pub record GeneralChecking : Type 0 where
   pub query : Option Text
   pub log : Text
 
+-- whether a claim holds, or there is no history, at every horizon
+pub record Proving : Type 0 where
+  pub file : Text
+  pub query : Option Text
+  pub budget : ℕ
+  pub log : Option Text
+
+-- whether a log of an induction over horizons is right
+pub record ForeverChecking : Type 0 where
+  pub file : Text
+  pub query : Option Text
+  pub log : Text
+
 pub data Request : Type 0 where
   ToList : Listing → Request
   ToCheck : Checking → Request
   -- a description of this size that has a history found within this budget
   ToMake : ℕ → ℕ → Request
-  ToExplain : Explaining → Request
+  ToSayWhy : SayingWhy → Request
   ToConvert : Converting → Request
   ToExport : Exporting → Request
   ToModel : Modelling → Request
@@ -102,13 +115,15 @@ pub data Request : Type 0 where
   ToCheckSure : SureChecking → Request
   ToListGenerally : Generally → Request
   ToCheckGeneral : GeneralChecking → Request
+  ToProve : Proving → Request
+  ToCheckForever : ForeverChecking → Request
 
 -- its numbers are within their bounds
 abbrev pub IsWithin : Request → Type 0
 IsWithin (ToList listing) = IfSome listing.count (λ count. 1 ≤ count) × (listing.budget ≤ 2000000)
 IsWithin (ToCheck checking) = Unit {0}
 IsWithin (ToMake size budget) = (1 ≤ size) × (budget ≤ 2000000)
-IsWithin (ToExplain explaining) = Unit {0}
+IsWithin (ToSayWhy saying) = Unit {0}
 IsWithin (ToConvert converting) = Unit {0}
 IsWithin (ToExport exporting) = Unit {0}
 IsWithin (ToModel modelling) = IfSome modelling.count (λ count. 1 ≤ count) × (modelling.budget ≤ 2000000)
@@ -117,6 +132,8 @@ IsWithin (ToBeSure surely) = surely.budget ≤ 2000000
 IsWithin (ToCheckSure checking) = Unit {0}
 IsWithin (ToListGenerally generally) = IfSome generally.count (λ count. 1 ≤ count) × (generally.budget ≤ 2000000)
 IsWithin (ToCheckGeneral checking) = Unit {0}
+IsWithin (ToProve proving) = proving.budget ≤ 2000000
+IsWithin (ToCheckForever checking) = Unit {0}
 
 -- ---- values
 
@@ -133,7 +150,9 @@ mode_named text =
     else (if same_text text (codes "sure") then Some modes.Sure
     else (if same_text text (codes "surecheck") then Some modes.CheckSure
     else (if same_text text (codes "general") then Some modes.General
-    else (if same_text text (codes "generalcheck") then Some modes.CheckGeneral else None)))))))))))
+    else (if same_text text (codes "generalcheck") then Some modes.CheckGeneral
+    else (if same_text text (codes "forever") then Some modes.Forever
+    else (if same_text text (codes "forevercheck") then Some modes.CheckForever else None)))))))))))))
 
 -- the number from 1 to `most` that one to seven decimal digits spell
 abbrev pub number_up_to : ℕ → Text → Option ℕ
@@ -172,6 +191,8 @@ needs modes.Sure = items.File ∷ []
 needs modes.CheckSure = items.File ∷ items.Log ∷ []
 needs modes.General = items.File ∷ []
 needs modes.CheckGeneral = items.File ∷ items.Log ∷ []
+needs modes.Forever = items.File ∷ []
+needs modes.CheckForever = items.File ∷ items.Log ∷ []
 
 -- and what it bars
 abbrev pub bars : Mode → List Item
@@ -193,6 +214,9 @@ bars modes.CheckSure =
     items.Count ∷ items.Budget ∷ items.After ∷ items.Form ∷ items.To ∷ items.Key ∷ items.Horizon ∷ items.Size ∷ []
 bars modes.General = items.After ∷ items.Form ∷ items.To ∷ items.Key ∷ items.Horizon ∷ items.Size ∷ []
 bars modes.CheckGeneral =
+    items.Count ∷ items.Budget ∷ items.After ∷ items.Form ∷ items.To ∷ items.Key ∷ items.Horizon ∷ items.Size ∷ []
+bars modes.Forever = items.Count ∷ items.After ∷ items.Form ∷ items.To ∷ items.Key ∷ items.Horizon ∷ items.Size ∷ []
+bars modes.CheckForever =
     items.Count ∷ items.Budget ∷ items.After ∷ items.Form ∷ items.To ∷ items.Key ∷ items.Horizon ∷ items.Size ∷ []
 
 abbrev pub has : Given → Item → Bool
@@ -255,8 +279,8 @@ abbrev pub to_make : Given → Option Request
 to_make given =
     provided given.size (λ text. provided (number_up_to 100 text) (λ size. provided (budget_of given) (λ budget. Some (ToMake size budget))))
 
-abbrev pub to_explain : Given → Option Request
-to_explain given = provided given.file (λ file. provided given.key (λ key. Some (ToExplain (record { file = file; key = key }))))
+abbrev pub to_say_why : Given → Option Request
+to_say_why given = provided given.file (λ file. provided given.key (λ key. Some (ToSayWhy (record { file = file; key = key }))))
 
 abbrev pub to_convert : Given → Option Request
 to_convert given = provided given.file (λ file. provided given.log (λ log. provided given.to (λ to. Some (ToConvert (record {
@@ -295,11 +319,19 @@ abbrev pub to_check_general : Given → Option Request
 to_check_general given =
     provided given.file (λ file. provided given.log (λ log. Some (ToCheckGeneral (record { file = file; query = given.query; log = log }))))
 
+abbrev pub to_prove : Given → Option Request
+to_prove given = provided given.file (λ file. provided (budget_of given) (λ budget.
+    Some (ToProve (record { file = file; query = given.query; budget = budget; log = given.log }))))
+
+abbrev pub to_check_forever : Given → Option Request
+to_check_forever given =
+    provided given.file (λ file. provided given.log (λ log. Some (ToCheckForever (record { file = file; query = given.query; log = log }))))
+
 abbrev pub valued : Mode → Given → Option Request
 valued modes.List given = to_list given
 valued modes.Check given = to_check given
 valued modes.Make given = to_make given
-valued modes.Why given = to_explain given
+valued modes.Why given = to_say_why given
 valued modes.Convert given = to_convert given
 valued modes.Export given = to_export given
 valued modes.Models given = to_model given
@@ -308,6 +340,8 @@ valued modes.Sure given = to_be_sure given
 valued modes.CheckSure given = to_check_sure given
 valued modes.General given = to_list_generally given
 valued modes.CheckGeneral given = to_check_general given
+valued modes.Forever given = to_prove given
+valued modes.CheckForever given = to_check_forever given
 
 -- what is asked for in a mode, where the words suit it
 abbrev pub asked_in : Mode → Given → Option Request

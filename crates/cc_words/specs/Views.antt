@@ -4,18 +4,20 @@ use Rattle.std.specs.Borrow.{Bor}
 use Rattle.cc_words.specs.declared.asked.Asked.{Asked}
 use Rattle.cc_words.specs.declared.asked.Asked.TheVariants as asked
 use Rattle.cc_words.specs.declared.asked.CheckAsked.{CheckAsked}
+use Rattle.cc_words.specs.declared.asked.CheckForeverAsked.{CheckForeverAsked}
 use Rattle.cc_words.specs.declared.asked.CheckGeneralAsked.{CheckGeneralAsked}
 use Rattle.cc_words.specs.declared.asked.CheckModelsAsked.{CheckModelsAsked}
 use Rattle.cc_words.specs.declared.asked.CheckSureAsked.{CheckSureAsked}
 use Rattle.cc_words.specs.declared.asked.ConvertAsked.{ConvertAsked}
-use Rattle.cc_words.specs.declared.asked.ExplainAsked.{ExplainAsked}
+use Rattle.cc_words.specs.declared.asked.WhyAsked.{WhyAsked}
 use Rattle.cc_words.specs.declared.asked.ExportAsked.{ExportAsked}
+use Rattle.cc_words.specs.declared.asked.ForeverAsked.{ForeverAsked}
 use Rattle.cc_words.specs.declared.asked.GeneralAsked.{GeneralAsked}
 use Rattle.cc_words.specs.declared.asked.ListAsked.{ListAsked}
 use Rattle.cc_words.specs.declared.asked.ModelsAsked.{ModelsAsked}
 use Rattle.cc_words.specs.declared.asked.SureAsked.{SureAsked}
 use Rattle.cc_words.specs.declared.given.Given.{Given as GivenWords}
-use Rattle.cc_words.specs.Requests.{Checking, Converting, Explaining, Exporting, GeneralChecking, Generally, Listing, ModelChecking, Modelling, Request, SureChecking, Surely, ToList, ToCheck, ToMake, ToExplain, ToConvert, ToExport, ToModel, ToCheckModels, ToBeSure, ToCheckSure, ToListGenerally, ToCheckGeneral}
+use Rattle.cc_words.specs.Requests.{Checking, Converting, SayingWhy, Exporting, ForeverChecking, GeneralChecking, Generally, Listing, ModelChecking, Modelling, Proving, Request, SureChecking, Surely, ToList, ToCheck, ToMake, ToSayWhy, ToConvert, ToExport, ToModel, ToCheckModels, ToBeSure, ToCheckSure, ToListGenerally, ToCheckGeneral, ToProve, ToCheckForever}
 use Rattle.cc_words.specs.Words.{Given, Text}
 
 abbrev pub plain_text : Option (Bor Text) → Option Text
@@ -58,8 +60,8 @@ checking_by check = record {
   log = check.log.now;
 }
 
-abbrev pub explaining_by : ExplainAsked → Explaining
-explaining_by explain = record { file = explain.file.now; key = explain.key.now }
+abbrev pub saying_why_by : WhyAsked → SayingWhy
+saying_why_by why = record { file = why.file.now; key = why.key.now }
 
 abbrev pub converting_by : ConvertAsked → Converting
 converting_by convert = record {
@@ -108,11 +110,22 @@ generally_by general = record {
 abbrev pub general_checking_by : CheckGeneralAsked → GeneralChecking
 general_checking_by check = record { file = check.file.now; query = plain_text check.query; log = check.log.now }
 
+abbrev pub proving_by : ForeverAsked → Proving
+proving_by forever = record {
+  file = forever.file.now;
+  query = plain_text forever.query;
+  budget = forever.budget;
+  log = plain_text forever.log;
+}
+
+abbrev pub forever_checking_by : CheckForeverAsked → ForeverChecking
+forever_checking_by check = record { file = check.file.now; query = plain_text check.query; log = check.log.now }
+
 abbrev pub plain_request : Asked → Request
 plain_request (asked.List list) = ToList (listing_by list)
 plain_request (asked.Check check) = ToCheck (checking_by check)
 plain_request (asked.Make size budget) = ToMake size budget
-plain_request (asked.Explain explain) = ToExplain (explaining_by explain)
+plain_request (asked.Why why) = ToSayWhy (saying_why_by why)
 plain_request (asked.Convert convert) = ToConvert (converting_by convert)
 plain_request (asked.Export export) = ToExport (exporting_by export)
 plain_request (asked.Models models) = ToModel (modelling_by models)
@@ -121,6 +134,8 @@ plain_request (asked.Sure sure) = ToBeSure (surely_by sure)
 plain_request (asked.CheckSure check) = ToCheckSure (sure_checking_by check)
 plain_request (asked.General general) = ToListGenerally (generally_by general)
 plain_request (asked.CheckGeneral check) = ToCheckGeneral (general_checking_by check)
+plain_request (asked.Forever forever) = ToProve (proving_by forever)
+plain_request (asked.CheckForever check) = ToCheckForever (forever_checking_by check)
 
 abbrev pub plain_asked : Option Asked → Option Request
 plain_asked = option_map plain_request

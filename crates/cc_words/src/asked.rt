@@ -11,7 +11,7 @@ pub enum Asked<'a> {
     /// A description: its size is 1 to 100, and its budget 1 to 2000000.
     Make { size: u32, budget: u32 },
     /// Why a history has its values.
-    Explain(ExplainAsked<'a>),
+    Why(WhyAsked<'a>),
     /// A log in its other version.
     Convert(ConvertAsked<'a>),
     /// The clause list of a horizon.
@@ -28,6 +28,10 @@ pub enum Asked<'a> {
     General(GeneralAsked<'a>),
     /// Whether a log of rivals is right.
     CheckGeneral(CheckGeneralAsked<'a>),
+    /// Whether a claim holds, or there is no history, at every horizon.
+    Forever(ForeverAsked<'a>),
+    /// Whether a log of an induction over horizons is right.
+    CheckForever(CheckForeverAsked<'a>),
 }
 
 /// Histories of a query.
@@ -62,7 +66,7 @@ pub struct CheckAsked<'a> {
 
 /// Why a history has its values.
 #[derive(Clone, Copy)]
-pub struct ExplainAsked<'a> {
+pub struct WhyAsked<'a> {
     pub file: &'a str,
     /// The key of the history.
     pub key: &'a str,
@@ -155,6 +159,28 @@ pub struct GeneralAsked<'a> {
 /// Whether a log of rivals is right.
 #[derive(Clone, Copy)]
 pub struct CheckGeneralAsked<'a> {
+    pub file: &'a str,
+    /// Its label; the first query without it.
+    pub query: Option<&'a str>,
+    /// The file that the log is read from.
+    pub log: &'a str,
+}
+
+/// Whether a claim holds, or there is no history, at every horizon.
+#[derive(Clone, Copy)]
+pub struct ForeverAsked<'a> {
+    pub file: &'a str,
+    /// Its label; the first query without it.
+    pub query: Option<&'a str>,
+    /// From 1 to 2000000, for each search.
+    pub budget: u32,
+    /// The file that the log is written to.
+    pub log: Option<&'a str>,
+}
+
+/// Whether a log of an induction over horizons is right.
+#[derive(Clone, Copy)]
+pub struct CheckForeverAsked<'a> {
     pub file: &'a str,
     /// Its label; the first query without it.
     pub query: Option<&'a str>,

@@ -2,12 +2,13 @@
 ghost use Rattle.std.specs.Prelude.{◌≡◌};
 ghost use Rattle.std.specs.List.{list_all, list_any};
 ghost use Rattle.cc_words.specs.Requests as requests;
-ghost use Rattle.cc_words.specs.Requests.{asked_in, asked_of, budget_of, count_of, form_of, mode_of, number_from_zero, number_up_to, provided, to_be_sure, to_check, to_check_models, to_check_general, to_check_sure, to_convert, to_explain, to_export, to_list, to_list_generally, to_make, to_model, valued};
+ghost use Rattle.cc_words.specs.Requests.{asked_in, asked_of, budget_of, count_of, form_of, mode_of, number_from_zero, number_up_to, provided, to_be_sure, to_check, to_check_forever, to_check_models, to_check_general, to_check_sure, to_convert, to_say_why, to_export, to_list, to_list_generally, to_make, to_model, to_prove, valued};
 ghost use Rattle.cc_words.specs.Views.{plain_asked, plain_given};
 
 use crate::asked::{
-    Asked, CheckAsked, CheckGeneralAsked, CheckModelsAsked, CheckSureAsked, ConvertAsked,
-    ExplainAsked, ExportAsked, GeneralAsked, ListAsked, ModelsAsked, SureAsked,
+    Asked, CheckAsked, CheckForeverAsked, CheckGeneralAsked, CheckModelsAsked, CheckSureAsked,
+    ConvertAsked, ExportAsked, ForeverAsked, GeneralAsked, ListAsked, ModelsAsked, SureAsked,
+    WhyAsked,
 };
 use crate::modes::{Item, Mode};
 use crate::names::is_plain_name;
@@ -166,13 +167,13 @@ impl<'a> Given<'a> {
         Some(Asked::Make { size, budget })
     }
 
-    fn to_explain(&self) -> Option<Asked<'a>>
-        ensures { plain_asked result ≡ to_explain (plain_given self.now) }
+    fn to_say_why(&self) -> Option<Asked<'a>>
+        ensures { plain_asked result ≡ to_say_why (plain_given self.now) }
     {
         let (Some(file), Some(key)) = (self.file, self.key) else {
             return None;
         };
-        Some(Asked::Explain(ExplainAsked { file, key }))
+        Some(Asked::Why(WhyAsked { file, key }))
     }
 
     fn to_convert(&self) -> Option<Asked<'a>>
@@ -288,6 +289,33 @@ impl<'a> Given<'a> {
         }))
     }
 
+    fn to_prove(&self) -> Option<Asked<'a>>
+        ensures { plain_asked result ≡ to_prove (plain_given self.now) }
+    {
+        let (Some(file), Some(budget)) = (self.file, self.budget()) else {
+            return None;
+        };
+        Some(Asked::Forever(ForeverAsked {
+            file,
+            query: self.query,
+            budget,
+            log: self.log,
+        }))
+    }
+
+    fn to_check_forever(&self) -> Option<Asked<'a>>
+        ensures { plain_asked result ≡ to_check_forever (plain_given self.now) }
+    {
+        let (Some(file), Some(log)) = (self.file, self.log) else {
+            return None;
+        };
+        Some(Asked::CheckForever(CheckForeverAsked {
+            file,
+            query: self.query,
+            log,
+        }))
+    }
+
     /// What is asked in a mode, by its values.
     fn valued(&self, mode: Mode) -> Option<Asked<'a>>
         ensures { plain_asked result ≡ valued mode (plain_given self.now) }
@@ -296,7 +324,7 @@ impl<'a> Given<'a> {
             Mode::List => self.to_list(),
             Mode::Check => self.to_check(),
             Mode::Make => self.to_make(),
-            Mode::Why => self.to_explain(),
+            Mode::Why => self.to_say_why(),
             Mode::Convert => self.to_convert(),
             Mode::Export => self.to_export(),
             Mode::Models => self.to_model(),
@@ -305,6 +333,8 @@ impl<'a> Given<'a> {
             Mode::CheckSure => self.to_check_sure(),
             Mode::General => self.to_list_generally(),
             Mode::CheckGeneral => self.to_check_general(),
+            Mode::Forever => self.to_prove(),
+            Mode::CheckForever => self.to_check_forever(),
         }
     }
 

@@ -2,12 +2,12 @@
 //!
 //! | Option | Value | Default | Goes with mode |
 //! |---|---|---|---|
-//! | `--mode` | `list`, `check`, `make`, `convert`, `why`, `export`, `models`, `modelscheck`, `sure`, `surecheck`, `general` or `generalcheck` | `list` | |
-//! | `--query` | a label | the first query | list, check, convert, export, sure, surecheck, general, generalcheck |
+//! | `--mode` | `list`, `check`, `make`, `convert`, `why`, `export`, `models`, `modelscheck`, `sure`, `surecheck`, `general`, `generalcheck`, `forever` or `forevercheck` | `list` | |
+//! | `--query` | a label | the first query | list, check, convert, export, sure, surecheck, general, generalcheck, forever, forevercheck |
 //! | `--count` | 1 to 1000000 | all | list, models, general |
-//! | `--budget` | 1 to 2000000 | 200000 | list, make, models, sure, general |
+//! | `--budget` | 1 to 2000000 | 200000 | list, make, models, sure, general, forever |
 //! | `--after` | a key | none | list, check, convert |
-//! | `--log` | a file name | none | list, models, sure, general (written); check, convert, modelscheck, surecheck, generalcheck (read, required) |
+//! | `--log` | a file name | none | list, models, sure, general, forever (written); check, convert, modelscheck, surecheck, generalcheck, forevercheck (read, required) |
 //! | `--form` | `1` or `2` | `1` | list, models |
 //! | `--to` | a file name | none | convert (required) |
 //! | `--key` | a key | none | why (required) |
@@ -30,8 +30,9 @@ pub mod theorems;
 mod words;
 
 pub use asked::{
-    Asked, CheckAsked, CheckGeneralAsked, CheckModelsAsked, CheckSureAsked, ConvertAsked,
-    ExplainAsked, ExportAsked, GeneralAsked, ListAsked, ModelsAsked, SureAsked,
+    Asked, CheckAsked, CheckForeverAsked, CheckGeneralAsked, CheckModelsAsked, CheckSureAsked,
+    ConvertAsked, ExportAsked, ForeverAsked, GeneralAsked, ListAsked, ModelsAsked, SureAsked,
+    WhyAsked,
 };
 pub use modes::{Item, Mode};
 pub use words::read;

@@ -29,6 +29,10 @@ pub enum Mode {
     General,
     /// A log of rivals is judged.
     CheckGeneral,
+    /// A claim, or that there is no history, is proved for every horizon.
+    Forever,
+    /// A log of an induction over horizons is judged.
+    CheckForever,
 }
 
 /// What may stand among the words: an option with its value, or the FILE.
@@ -76,6 +80,8 @@ impl Mode {
             "surecheck" => Some(Mode::CheckSure),
             "general" => Some(Mode::General),
             "generalcheck" => Some(Mode::CheckGeneral),
+            "forever" => Some(Mode::Forever),
+            "forevercheck" => Some(Mode::CheckForever),
             _ => None,
         }
     }
@@ -97,6 +103,8 @@ impl Mode {
             Mode::CheckSure => &[Item::File, Item::Log],
             Mode::General => &[Item::File],
             Mode::CheckGeneral => &[Item::File, Item::Log],
+            Mode::Forever => &[Item::File],
+            Mode::CheckForever => &[Item::File, Item::Log],
         }
     }
 
@@ -202,6 +210,25 @@ impl Mode {
                 Item::Size,
             ],
             Mode::CheckGeneral => &[
+                Item::Count,
+                Item::Budget,
+                Item::After,
+                Item::Form,
+                Item::To,
+                Item::Key,
+                Item::Horizon,
+                Item::Size,
+            ],
+            Mode::Forever => &[
+                Item::Count,
+                Item::After,
+                Item::Form,
+                Item::To,
+                Item::Key,
+                Item::Horizon,
+                Item::Size,
+            ],
+            Mode::CheckForever => &[
                 Item::Count,
                 Item::Budget,
                 Item::After,

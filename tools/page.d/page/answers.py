@@ -7,7 +7,7 @@ Event = Dict[str, object]
 
 LISTING: Any = importlib.import_module("listing")  # tools/listing.py, the reader of listings that all tools share
 
-HEADING = re.compile(r"horizon ([0-9]+): (history|counterexample|example)(?: ([0-9]+))?|without (.*):")
+HEADING = re.compile(r"horizon ([0-9]+): (history|counterexample|example)(?: ([0-9]+))?|without (.*):|(induction) over [0-9]+ steps: example")
 ATOM = re.compile(r"([0-9]+): ([^=]+)=([^=: ]+) (certain|impossible|possible, example ([0-9]+))")
 CAUSE = re.compile(r"([0-9]+): ([^=]+)=([^=: ]+): (?:(one value|initial)|(.*):([0-9]+))")
 PART = re.compile(r"(?:condition ([0-9]+)|law (.*):([0-9]+)|cause of (.*))")
@@ -36,7 +36,7 @@ class Reader:
         heading, self.heading = self.heading, None
         rows = LISTING.histories(["horizon 0: counterexample", *self.block])[0]
         key = line[len("key "):]
-        kind = "without" if heading.group(4) else heading.group(2)
+        kind = "without" if heading.group(4) else heading.group(2) or heading.group(5)
         return {
             "kind": kind, "horizon": int(key.partition(":")[0]), "number": int(heading.group(3) or 1), "rows": rows, "key": key,
             "part": heading.group(4),

@@ -98,12 +98,13 @@ class Folder:
                 with open(handle, "w", encoding="utf-8", newline="") as file:
                     file.write(text.replace("\n", ends) if ends == "\r\n" else text)
                 os.chmod(made, mode)
+                changed = os.stat(made).st_mtime_ns
                 os.replace(made, path)
             except BaseException:
                 with contextlib.suppress(OSError):
                     os.unlink(made)
                 raise
-            return path.stat().st_mtime_ns
+            return changed
         except OSError as error:
             raise Refused(f"{name} cannot be saved: {error.strerror}") from error
 

@@ -21,6 +21,8 @@ from page.texts import law_at, queries, step_query
 MOST_DRAWN = 300  # histories in one picture
 MOST_STEPS = 1000  # histories of one step that are listed
 MOST_QUERIES = 40  # queries whose steps are looked at while one writes
+JUDGES = {"list": "check", "sure": "surecheck", "forever": "forevercheck"}  # of each mode with a log, the one that judges it
+PROVED = re.compile(r"(?:claim holds at every|no history at any) horizon from [0-9]+ on")
 ENDED = {
     "time": "the time limit ended the run", "memory": "the memory limit ended the run", "output": "the output limit ended the run",
 }
@@ -56,8 +58,8 @@ class Desk:
     def __init__(self, folder: Folder, program: Program, runner: Runner, hints: Dict[int, str]) -> None:
         self.folder, self.program, self.runner, self.hints = folder, program, runner, hints
         self.jobs: Dict[str, Callable[["Work"], Iterator[Event]]] = {
-            "check": check, "list": list_histories, "sure": tell_sure, "judge": judge_log, "why": tell_why, "whynot": tell_whynot,
-            "states": list_states, "step": list_steps, "picture": draw,
+            "check": check, "list": list_histories, "sure": tell_sure, "forever": tell_forever, "judge": judge_log, "why": tell_why,
+            "whynot": tell_whynot, "states": list_states, "step": list_steps, "picture": draw,
         }
 
     def answer(self, task: Task) -> Iterator[bytes]:
@@ -243,20 +245,28 @@ def tell_sure(work: Work) -> Iterator[Event]:
     yield work.end()
 
 
+def tell_forever(work: Work) -> Iterator[Event]:
+    yield from work.events(["--mode", "forever", *asked_words(work)])
+    yield work.end()
+
+
 def judge_log(work: Work) -> Iterator[Event]:
-    """Writes the log of a listing, or of sure mode, and has the checker judge it."""
+    """Writes the log of a listing, or of another mode, and has its checker judge it; of forever mode where an induction holds, since others
+    show nothing of every horizon."""
     log = str(work.made / "log")
-    sure = work.task.asked.get("of") == "sure"
+    of = str(work.task.asked.get("of"))
+    mode = of if of in JUDGES else "list"
     words = asked_words(work)
     lines: List[str] = []
-    yield from work.all_lines((["--mode", "sure"] if sure else []) + [*words, "--log", log], lines)
-    if work.ending is None or work.ending.code not in (0, 1):
+    yield from work.all_lines(["--mode", mode, *words, "--log", log], lines)
+    answer = lines[-1] if lines else ""
+    size = pathlib.Path(log).stat().st_size if pathlib.Path(log).exists() else 0
+    yield {"kind": "log", "bytes": size, "answer": answer}
+    if work.ending is None or work.ending.code not in (0, 1) or (mode == "forever" and not PROVED.fullmatch(answer)):
         yield work.end()
         return
-    size = pathlib.Path(log).stat().st_size if pathlib.Path(log).exists() else 0
-    yield {"kind": "log", "bytes": size, "answer": lines[-1] if lines else ""}
     verdict: List[str] = []
-    yield from work.all_lines(["--mode", "surecheck" if sure else "check", *words, "--log", log], verdict)
+    yield from work.all_lines(["--mode", JUDGES[mode], *words, "--log", log], verdict)
     yield {"kind": "verdict", "text": verdict[-1] if verdict else "", "code": work.ending.code, "program": work.desk.program.path.name}
     yield work.end()
 

@@ -9,6 +9,9 @@ const $ = (id) => document.getElementById(id);
 const FIRST = 100; // histories that are listed at first
 const PAGE = 100; // histories on one page of the list
 const SIZES = [100, 115, 130, 150, 175, 200];
+const LEFT_OPEN = "This may begin in a state that is never reached: then a claim that says more can settle it. Else ask for more steps.";
+const HISTORIES = new Set(["history", "counterexample", "example", "without", "induction"]); // kinds of events
+const JUDGES = { list: "check", sure: "surecheck", forever: "forevercheck" }; // of each mode with a log, the one that judges it
 
 const state = { name: null, changed: null, ends: "\n", saved: "", drafts: new Map(), queries: [], modes: {}, answer: null, checking: null };
 let editor = null;
@@ -171,7 +174,7 @@ function showQueries() {
     const button = (words, action, strong) => make("button", { type: "button", class: strong ? "strong" : null, "aria-label": `${words}: ${name}`, onclick: action }, words);
     const canBeAsked = query.label !== null || query === state.queries[0];
     const buttons = canBeAsked
-      ? [button("Ask", () => askQuery(query), true), query.claim ? null : button("Certain?", () => askSure(query)), button("Judge its log", () => judge(query))]
+      ? [button("Ask", () => askQuery(query), true), query.claim ? null : button("Certain?", () => askSure(query)), button("Ever?", () => askForever(query)), button("Judge its log", () => judge(query))]
       : [make("span", { class: "none" }, "give it a label, to ask it")];
     const where = query.file ? `${query.file}, line ${query.line}` : `line ${query.line}${query.claim ? ", a claim" : ""}`;
     return make("li", {}, make("span", { class: "name" }, name), ...buttons, make("span", { class: "none" }, where));
@@ -196,7 +199,7 @@ function newAnswer(query, kind) {
 
 function take(answer, events) {
   for (const event of events) {
-    if (event.kind === "history" || event.kind === "counterexample" || event.kind === "example" || event.kind === "without") answer.histories.push(event);
+    if (HISTORIES.has(event.kind)) answer.histories.push(event);
     else if (event.kind === "atom") answer.atoms.push(event);
     else if (event.kind === "part") answer.parts.push(event);
     else if (event.kind === "line") answer.lines.push(event.text);
@@ -232,12 +235,13 @@ async function listed(answer, more) {
 function showVerdict() {
   const { answer } = state;
   const { end } = answer;
-  const last = end.reason === "ended" && !end.refusal ? answer.lines[answer.lines.length - 1] || end.text : end.text;
+  const isWhole = end.reason === "ended" && !end.refusal;
+  const last = isWhole ? answer.lines[answer.lines.length - 1] || end.text : end.text;
   const isFurther = answer.histories.length > 0 && answer.kind === "list" && answer.histories[0].kind === "history";
-  const tone = end.reason !== "ended" || end.refusal ? "bad" : end.code === 0 || end.code === 7 || isFurther ? "good" : end.code === 1 ? "bad" : "";
+  const tone = !isWhole ? "bad" : end.code === 0 || end.code === 7 || isFurther ? "good" : end.code === 1 ? "bad" : "";
   const parts = [make("p", { class: `ending ${tone}` }, last || "ended")];
   if (end.refusal) showProblems([end.refusal], "");
-  const others = answer.lines.slice(0, -1);
+  const others = isWhole ? answer.lines.slice(0, -1) : answer.lines;
   if (others.length) parts.push(make("p", { class: "lines" }, others.slice(0, 12).join("; ") + (others.length > 12 ? `; and ${others.length - 12} more` : "")));
   if (answer.kind === "list" && end.code === 1 && last === "no history") {
     parts.push(make("button", { type: "button", onclick: () => askWhyNot(answer.query) }, "Why is there none?"));
@@ -255,6 +259,20 @@ async function askSure(query) {
   showVerdict();
   if (answer.atoms.length) $("sure").replaceChildren(sureTable(answer.atoms, (example) => showHistory(example - 1)));
   if (answer.histories.length) showHistory(0);
+}
+
+async function askForever(query) {
+  const answer = newAnswer(query, "forever");
+  const job = { kind: "forever", name: answer.name, text: answer.text };
+  if (query.label !== null) job.label = query.label;
+  const end = await ask(job, (events) => take(answer, events));
+  if (state.answer !== answer) return;
+  answer.end = end;
+  showVerdict();
+  if (!answer.histories.length) return;
+  if (answer.histories[0].kind === "induction") $("verdict").append(make("p", {}, LEFT_OPEN));
+  showHistory(0);
+  drawAnswer("histories");
 }
 
 async function askWhyNot(query) {
@@ -281,7 +299,8 @@ async function judge(query) {
   const isShown = state.answer && state.answer.query.label === query.label && state.answer.text === editor.get();
   if (!isShown) newAnswer(query, "judge");
   const { answer } = state;
-  const job = { kind: "judge", name: answer.name, text: answer.text, of: answer.kind === "sure" ? "sure" : "list" };
+  const of = answer.kind in JUDGES ? answer.kind : "list";
+  const job = { kind: "judge", name: answer.name, text: answer.text, of };
   if (query.label !== null) job.label = query.label;
   let log = null;
   let verdict = null;
@@ -290,9 +309,8 @@ async function judge(query) {
     verdict = events.find((event) => event.kind === "verdict") || verdict;
   });
   if (state.answer !== answer) return;
-  const mode = answer.kind === "sure" ? "surecheck" : "check";
   const said = verdict
-    ? [make("p", { class: `ending ${verdict.code === 0 ? "good" : "bad"}`, id: "judged" }, verdict.text), make("p", { class: "lines" }, `The log has ${log.bytes} bytes; ${mode} mode judged it.`)]
+    ? [make("p", { class: `ending ${verdict.code === 0 ? "good" : "bad"}`, id: "judged" }, verdict.text), make("p", { class: "lines" }, `The log has ${log.bytes} bytes; ${JUDGES[of]} mode judged it.`)]
     : [make("p", { class: "ending bad", id: "judged" }, `there is no log to judge: ${end.text || log?.answer || "the run did not end by itself"}`)];
   $("judgement")?.remove();
   $("verdict").append(make("div", { id: "judgement" }, ...said));
@@ -301,8 +319,10 @@ async function judge(query) {
 
 // ---- histories
 
-const asTitle = (history, index) =>
-  history.kind === "counterexample" ? "Counterexample" : history.kind === "example" ? `Example ${history.number}` : history.part ? `Without ${history.part}` : `History ${index + 1}`;
+function asTitle(history, index) {
+  const titles = { counterexample: "Counterexample", example: `Example ${history.number}`, without: `Without ${history.part}`, induction: "What the induction leaves open" };
+  return titles[history.kind] || `History ${index + 1}`;
+}
 
 function showCount() {
   const { answer } = state;
@@ -319,9 +339,11 @@ function showCount() {
 const hasMore = (answer) =>
   answer.kind === "list" && answer.histories.length > 0 && answer.histories[0].kind === "history" && answer.end !== null && (answer.end.code === 7 || answer.end.reason !== "ended");
 
+// The step at which a claim fails; an induction asks for a claim at maxstep alone.
 function failsAt(answer, history) {
-  if (history.kind !== "counterexample" || !answer.query.claim) return null;
-  return answer.query.claim === "maxstep" ? history.horizon : Number(answer.query.claim);
+  const { claim } = answer.query;
+  if (claim === "maxstep" && (history.kind === "counterexample" || history.kind === "induction")) return history.horizon;
+  return claim && history.kind === "counterexample" ? Number(claim) : null;
 }
 
 async function showHistory(index) {

@@ -6,6 +6,7 @@ import { make } from "./views.js";
 export function makePicture(places, askRun) {
   let scale = 1;
   let width = 0; // in the letters of the page
+  let asked = 0; // pictures; what comes when a later one was asked for is left
 
   const resize = () => {
     const svg = places.drawing.querySelector("svg");
@@ -41,6 +42,7 @@ export function makePicture(places, askRun) {
   // Draws histories, each a list of rows, as `histories` or as `transitions`.
   const draw = async (histories, shape) => {
     if (!histories.length) return;
+    const mine = (asked += 1);
     places.section.hidden = false;
     places.drawn.textContent = "drawing ..";
     let picture = null;
@@ -48,6 +50,7 @@ export function makePicture(places, askRun) {
     const end = await askRun({ kind: "picture", shape, histories: sent }, (events) => {
       picture = events.find((event) => event.kind === "picture") || picture;
     });
+    if (mine !== asked) return;
     if (picture) {
       show(picture.svg);
       const left = histories.length - sent.length;

@@ -3,7 +3,6 @@ use Rattle.std.specs.Prelude.{List, ℕ}
 use Rattle.cc_defs.specs.declared.log.LogVerdict.{LogVerdict}
 use Rattle.cc_defs.specs.declared.log.LogVerdict.TheVariants as verdicts
 use Rattle.cc_defs.specs.declared.refusal.Fault.TheVariants as faults
-use Rattle.cc_defs.specs.declared.refusal.Refusal.{Refusal}
 use Rattle.cc_defs.specs.Logs.{IsVerdict}
 use Rattle.cc_describe.specs.declared.heads.Heads.TheVariants as heads
 use Rattle.cc_describe.specs.Describing.{AreToOpen}
@@ -18,7 +17,6 @@ use Rattle.cc_run.specs.Naming.{named_in}
 use Rattle.cc_tell.specs.declared.status.Status.{Status}
 use Rattle.cc_tell.specs.declared.status.Status.TheVariants as statuses
 use Rattle.cc_words.specs.Requests.{Checking}
-use Rattle.cc_words.specs.Words.{Text}
 
 abbrev pub verdict_status : LogVerdict → Status
 verdict_status (verdicts.Accepted first last blocked) = statuses.Right

@@ -3,7 +3,6 @@ use Rattle.std.specs.Prelude.{ℕ, List, codes, None}
 use Rattle.cc_check.specs.declared.silent.SilentVerdict.{SilentVerdict}
 use Rattle.cc_check.specs.Silent.{IsSilentFault, IsSilentVerdict, IsSilentVerdictWithin}
 use Rattle.cc_defs.specs.declared.refusal.Fault.TheVariants as faults
-use Rattle.cc_defs.specs.declared.refusal.Refusal.{Refusal}
 use Rattle.cc_defs.specs.Description.{Description}
 use Rattle.cc_defs.specs.Resolved.{Query}
 use Rattle.cc_describe.specs.declared.heads.Heads.TheVariants as heads

@@ -66,16 +66,9 @@ fn tell_finds<D: Desk>(
         (D.seen desk.old) (D.seen desk.new) result }
 {
     loop {
-        match tell_find(alloc, desk, &mut lister, &mut search) {
-            Ok(Some(status)) => {
-                drop(search);
-                return Ok(status);
-            }
-            Ok(None) => {}
-            Err(stop) => {
-                drop(search);
-                return Err(stop);
-            }
+        match tell_find(alloc, desk, &mut lister, &mut search)? {
+            Some(status) => return Ok(status),
+            None => {}
         }
     }
 }
@@ -95,20 +88,13 @@ fn tell_section<D: Desk>(
         TellsListing axioms version count budget nothing (D.seen desk.old) (D.seen desk.new)
         result }
 {
-    match give_heading(alloc, desk, version) {
-        Ok(()) => {
-            let lister = Lister {
-                version,
-                own: search.axioms() + 1,
-                listed: 0,
-            };
-            tell_finds(alloc, desk, lister, search)
-        }
-        Err(stop) => {
-            drop(search);
-            Err(stop)
-        }
-    }
+    give_heading(alloc, desk, version)?;
+    let lister = Lister {
+        version,
+        own: search.axioms() + 1,
+        listed: 0,
+    };
+    tell_finds(alloc, desk, lister, search)
 }
 
 /// Begins the log where one is named, and lists the models.
@@ -127,13 +113,8 @@ fn list_models<D: Desk>(
         Prints (modelling_promise modelling) (is_some modelling.log) [] (D.seen desk.old) (D.seen desk.new) result }
 {
     let search = Search::of(alloc, form, asked.count, asked.budget)?;
-    match begin_log(desk, asked.log) {
-        Ok(()) => tell_section(alloc, desk, asked.form, search),
-        Err(stop) => {
-            drop(search);
-            Err(stop)
-        }
-    }
+    begin_log(desk, asked.log)?;
+    tell_section(alloc, desk, asked.form, search)
 }
 
 /// Reads the CNF, begins the log where one is named, and lists the models.

@@ -7,16 +7,16 @@ ghost use Rattle.cc_defs.specs.Paths.{IsPath};
 ghost use Rattle.cc_defs.specs.Rows.{IsRow};
 ghost use Rattle.cc_describe.specs.declared.heads.Heads.TheVariants as heads;
 ghost use Rattle.cc_describe.specs.Describing.{Describes, HasForms, SaysAll};
-ghost use Rattle.cc_run.specs.Explained.{IsLookedAt, TellsRow};
-ghost use Rattle.cc_run.specs.Modes.Explaining.{explaining_promise, no_history_line};
+ghost use Rattle.cc_run.specs.WhyTold.{IsLookedAt, TellsRow};
+ghost use Rattle.cc_run.specs.Modes.Why.{why_promise, no_history_line};
 ghost use Rattle.cc_list.specs.Stops.{Prints};
 ghost use Rattle.cc_sorts.specs.Tables.{IsSignatureFor};
 ghost use Rattle.cc_tell.specs.Steps.{Step};
 ghost use Rattle.cc_tell.specs.Givens.{only_out};
 ghost use Rattle.cc_theory.specs.Theories.{AreLawsFor, AreLawsOf};
-ghost use Rattle.cc_words.specs.Requests.{Explaining};
+ghost use Rattle.cc_words.specs.Requests.{SayingWhy};
 ghost use Rattle.cc_words.specs.Words.{Text};
-ghost use Rattle.cc_words.specs.Views.{explaining_by};
+ghost use Rattle.cc_words.specs.Views.{saying_why_by};
 
 use crate::mode::{Mode, refuse_fault};
 use crate::rows::{LookedAt, look_at};
@@ -29,7 +29,7 @@ use cc_ports::{Desk, To};
 use cc_tell::{Status, Stop, give};
 use cc_tell_modes::tell_causes;
 use cc_why::why;
-use cc_words::ExplainAsked;
+use cc_words::WhyAsked;
 use std::alloc::Global;
 
 /// Tells that a row is no history.
@@ -77,8 +77,8 @@ fn tell_history<D: Desk>(
     Ok(Status::Right)
 }
 
-/// Explains a row, or tells that it is no history.
-fn explain_row<D: Desk>(
+/// TellsWhy a row, or tells that it is no history.
+fn tell_row<D: Desk>(
     alloc: Global,
     desk: &mut D,
     described: &Described,
@@ -99,8 +99,8 @@ fn explain_row<D: Desk>(
     tell_none(desk)
 }
 
-impl<'a> Mode for ExplainAsked<'a> {
-    ghost promise = { λ asked. explaining_promise (explaining_by asked) };
+impl<'a> Mode for WhyAsked<'a> {
+    ghost promise = { λ asked. why_promise (saying_why_by asked) };
 
     ghost which = { λ asked. heads.Definite };
 
@@ -129,7 +129,7 @@ impl<'a> Mode for ExplainAsked<'a> {
         let arena = Bump::new(alloc);
         let terms = Terms::new(&arena);
         match look_at(alloc, described, self.key, &terms) {
-            Ok(row) => explain_row(alloc, desk, described, &row),
+            Ok(row) => tell_row(alloc, desk, described, &row),
             Err(fault) => refuse_fault(alloc, desk, described, &fault),
         }
     }

@@ -5,8 +5,8 @@ use Rattle.cc_check.proofs.silent.judge_behind.Given as goal
 
 abbrev pub invariant-loop-rest : goal.invariant-loop-rest
 invariant-loop-rest g l =
-    AreFewSoFar l.sections l.line l.rest
-    × ((of : g.S.Silent.Of) → g.S.Silent.Is l.kind of → SilentSoFar (g.S.Silent.subject of) (lines_in l.body) l.sections l.line l.rest)
+    AreFewSoFar l.place.before l.line l.rest
+    × ((of : g.S.Silent.Of) → g.S.Silent.Is l.kind of → SilentSoFar (g.S.Silent.subject of) (lines_in l.body) l.place l.line l.rest)
 
 abbrev pub decreases-loop-rest : goal.decreases-loop-rest
 decreases-loop-rest g l = length l.rest

@@ -4,14 +4,8 @@ use Rattle.cc_defs.specs.Satisfaction.{bind}
 use Rattle.cc_ground.specs.Bindings.{BindingsView, environment_of}
 use Rattle.cc_ground.specs.Outermost.{bracket_truth}
 use Rattle.cc_ground.specs.Views.{bare_universe, passes_in}
-use Rattle.cc_ground.proofs.Testing.{bracket_is_true, bracket_more, bracket_stop, bracket_end, negated_on, passed_here, relation_is, then_second}
+use Rattle.cc_ground.proofs.Testing.{bracket_is_true, bracket_more, bracket_stop, bracket_end, passed_here, relation_is, then_second}
 use Rattle.cc_ground.proofs.conditions.+passing.Goals as goal
-
-pub passes-returns-in-Not-clause-env : goal.passes-returns-in-Not-clause-env
-passes-returns-in-Not-clause-env t c = negated_on _ c.passes.result c.negated.result c.negated.ensures c.passes.ensures.env
-
-pub second_passes-returns-in-Same-false-clause-env : goal.second_passes-returns-in-Same-false-clause-env
-second_passes-returns-in-Same-false-clause-env t c = negated_on _ c.passes.result c.negated.result c.negated.ensures c.passes.ensures.env
 
 pub bracket_passes-loop-object-preserved : goal.bracket_passes-loop-object-preserved
 bracket_passes-loop-object-preserved t c = record {

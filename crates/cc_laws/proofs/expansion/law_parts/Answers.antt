@@ -1,4 +1,4 @@
-use Rattle.std.proofs.Common.{◌≡◌, ◌∙◌, ◌+◌, [], List, ℕ, Bool, Some, IfOk, OnOk, ap, subst, sym}
+use Rattle.std.proofs.Common.{◌∙◌, ◌+◌, [], List, ℕ, Bool, Some, ap, sym}
 use Rattle.std.specs.Prelude.{if◌then◌else◌}
 use Rattle.std.specs.Option.{option_map}
 use Rattle.cc_defs.specs.Resolved as resolved
@@ -16,19 +16,18 @@ returns-clause-after c =
     let law = plain_caused c.args.law.now c.args.later in
     let old = c.args.names.now in
     let new = c.written_body.new.names in
-    ap (option_map plain_formula) c.into_inner-3.ensures
-    ∙ subst (λ r. IfOk r (λ made. option_map plain_formula made ≡ option_map (resolve v (scope_of new) new.next) law.after)) c.in_ok-after.ensures c.resolve_after.ensures.made
+    c.in_ok-after.ensures.made
     ∙ ap (λ (items : List Binding). option_map (resolve v (inside [] items) new.next) law.after)
-    (subst (λ r. OnOk r (new.bindings.items ≡ old.bindings.items)) c.in_ok-body.ensures c.written_body.ensures.kept)
+    c.in_ok-body.ensures.kept
     ∙ ap (λ (n : ℕ). option_map (resolve v (scope_of old) n) law.after)
-    (subst (λ r. OnOk r (new.next ≡ old.next + part_brackets law.body)) c.in_ok-body.ensures c.written_body.ensures.next)
+    c.in_ok-body.ensures.next
     ∙ sym (ap (λ (b : Bool). if b then Some (part v (scope_of old) old.next law.body) else option_map (resolve v (scope_of old) (old.next + part_brackets law.body)) law.after) c.if-denied.false)
 
 pub returns-clause-body : goal.returns-clause-body
 returns-clause-body c =
     let v = vocabulary_of c.args.table.now in
     let body = part v (scope_of c.args.names.now) c.args.names.now.next (plain_caused c.args.law.now c.args.later).body in
-    ap plain_formula c.into_inner-2.ensures ∙ subst (λ r. IfOk r (λ made. plain_formula made ≡ body)) c.in_ok-body.ensures c.written_body.ensures.made
+    c.in_ok-body.ensures.made
     ∙ sym (ap (λ (b : Bool). if b then resolved.Truth else body) c.if-denied.false)
 
 pub returns-then-denied-clause-after : goal.returns-then-denied-clause-after
@@ -37,8 +36,7 @@ returns-then-denied-clause-after c =
     let old = c.args.names.now in
     let law = plain_caused c.args.law.now c.args.later in
     let body = part v (scope_of old) old.next law.body in
-    ap (λ f. Some (plain_formula f)) c.into_inner.ensures
-    ∙ ap Some (subst (λ r. IfOk r (λ made. plain_formula made ≡ body)) c.in_ok-body.ensures c.written_body.ensures.made)
+    ap Some c.in_ok-body.ensures.made
     ∙ sym (ap (λ (b : Bool). if b then Some body else option_map (resolve v (scope_of old) (old.next + part_brackets law.body)) law.after) c.if-denied.true)
 
 pub returns-then-denied-clause-body : goal.returns-then-denied-clause-body

@@ -1,4 +1,4 @@
-use Rattle.std.proofs.Common.{◌≡◌, ◌∙◌, ◌++◌, ◌∷◌, [], ap, map}
+use Rattle.std.proofs.Common.{◌∙◌, ap, map}
 use Rattle.std.proofs.lemmas.Iterator.Adapters.{YieldsList-from_vec}
 use Rattle.std.proofs.lemmas.Iterator.Consumers.{YieldsList-end}
 use Rattle.cc_defs.specs.Resolved.{plain_base_law, plain_head}
@@ -6,15 +6,13 @@ use Rattle.cc_laws.specs.Expansion.{law_for}
 use Rattle.cc_laws.specs.Views.{frame_from, plain_caused}
 use Rattle.cc_laws.specs.Vocabulary.{vocabulary_of}
 use Rattle.cc_laws.proofs.Gathered.{yielded_more, yielded_all}
-use Rattle.cc_laws.proofs.WithMade.{with_made}
 use Rattle.cc_laws.proofs.expansion.split.Goals as goal
 
 pub loop-head-preserved : goal.loop-head-preserved
 loop-head-preserved c =
     let v = vocabulary_of c.args.table.now in
     let f = law_for v (frame_from v c.args.source.now) (plain_caused c.args.law.now c.args.later) in
-    with_made c.law_for.result (λ one. plain_base_law one ≡ f (plain_head c.in-Some.head)) (λ one. c.put_made.new.list.items ≡ c.loop-head.made.items ++ one ∷ []) c.in_ok-put_made.ensures.made c.in_ok-put_made.ensures.items c.law_for.ensures
-    (λ one is put. yielded_more plain_base_law f plain_head c.loop-head.yielded c.in-Some.head c.loop-head.made.items c.put_made.new.list.items one put is c.loop-head.invariant)
+    yielded_more plain_base_law f plain_head c.loop-head.yielded c.in-Some.head c.loop-head.made.items c.push.new.self.items _ c.in_ok-push.ensures.items c.in_ok-law_for.ensures c.loop-head.invariant
 
 pub returns : goal.returns
 returns c =

@@ -12,12 +12,12 @@ returns-clause-made c =
     let v = vocabulary_of c.args.table.now in
     let old = c.args.names.now in
     let formula = plain_tree c.args.formula.now in
-    ap (λ (f : Formula). Both f (plain_formula c.in_ok-next.next.value)) (subst (λ r. IfOk r (λ made. plain_formula made ≡ plain_formula c.args.made)) c.in_ok-made.ensures refl)
+    ap (λ (f : Formula). Both f (plain_formula c.in_ok-next.next.value)) (ap plain_formula c.in_ok-made.ensures.ok)
     ∙ ap (Both (plain_formula c.args.made))
-    (subst (λ r. IfOk r (λ made. plain_formula made ≡ resolve v (scope_of old) old.next formula)) c.in_ok-next.ensures c.resolve.ensures.made ∙ ap (λ (items : List Binding). resolve v (inside [] items) old.next formula) c.requires)
+    (ap plain_formula c.in_ok-next.ensures.ok ∙ c.in_ok-resolve.ensures.made ∙ ap (λ (items : List Binding). resolve v (inside [] items) old.next formula) c.requires)
 
 pub returns-clause-kept : goal.returns-clause-kept
-returns-clause-kept c = subst (λ r. OnOk r (c.resolve.new.names.bindings.items ≡ c.args.names.now.bindings.items)) c.in_ok-next.ensures c.resolve.ensures.kept ∙ c.requires
+returns-clause-kept c = c.in_ok-resolve.ensures.kept ∙ c.requires
 
 pub returns-clause-next : goal.returns-clause-next
-returns-clause-next c = subst (λ r. OnOk r (c.resolve.new.names.next ≡ c.args.names.now.next + brackets (plain_tree c.args.formula.now))) c.in_ok-next.ensures c.resolve.ensures.next
+returns-clause-next c = c.in_ok-resolve.ensures.next

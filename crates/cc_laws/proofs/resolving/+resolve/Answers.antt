@@ -17,28 +17,26 @@ use Rattle.cc_laws.proofs.resolving.+resolve.Goals as goal
 pub resolve_inside-returns-clause-made : goal.resolve_inside-returns-clause-made
 resolve_inside-returns-clause-made t c =
     let resolved = λ (scope : List Binding). resolve (vocabulary_of c.args.table.now) scope c.args.names.now.next (plain_tree c.args.inner.now) in
-    subst (λ result. IfOk result (λ made. plain_formula made ≡ resolved (inside [] c.push.new.self.items))) c.in_ok-made.ensures c.resolve.ensures.made
+    ap plain_formula c.in_ok-made.ensures.ok ∙ c.in_ok-resolve.ensures.made
     ∙ ap resolved (pushed c.args.names.now.bindings.items c.push.new.self.items c.args.binding c.in_ok-push.ensures.items)
 
 pub resolve_inside-returns-clause-next : goal.resolve_inside-returns-clause-next
 resolve_inside-returns-clause-next t c =
-    subst (λ r. OnOk r (c.resolve.new.names.next ≡ c.args.names.now.next + brackets (plain_tree c.args.inner.now))) c.in_ok-made.ensures c.resolve.ensures.next
+    c.in_ok-resolve.ensures.next
 
 pub resolve_inside-returns-clause-kept : goal.resolve_inside-returns-clause-kept
 resolve_inside-returns-clause-kept t c =
     popped c.args.names.now.bindings.items c.resolve.new.names.bindings.items c.pop.new.self.items c.args.binding _ c.resolve.new.names.bindings.ok.0
-    (subst (λ r. OnOk r (c.resolve.new.names.bindings.items ≡ c.push.new.self.items)) c.in_ok-made.ensures c.resolve.ensures.kept ∙ c.in_ok-push.ensures.items) c.pop.ensures.rest
+    (c.in_ok-resolve.ensures.kept ∙ c.in_ok-push.ensures.items) c.pop.ensures.rest
 
 pub resolve_not-returns-clause-made : goal.resolve_not-returns-clause-made
 resolve_not-returns-clause-made t c =
-    let formula = resolve (vocabulary_of c.args.table.now) (scope_of c.args.names.now) c.args.names.now.next (plain_tree c.args.inner.now) in
-    ap Not (subst (λ r. IfOk r (λ made. plain_formula made ≡ formula)) c.in_ok-inner.ensures c.resolve.ensures.made)
+    ap Not (ap plain_formula c.in_ok-inner.ensures.ok ∙ c.in_ok-resolve.ensures.made)
 
 pub resolve_two-returns-clause-next : goal.resolve_two-returns-clause-next
 resolve_two-returns-clause-next t c =
     counted_on c.resolve-2.new.names.next c.resolve.new.names.next c.args.names.now.next (brackets (plain_tree c.args.first.now)) (brackets (plain_tree c.args.second.now))
-    (subst (λ r. OnOk r (c.resolve-2.new.names.next ≡ c.resolve.new.names.next + brackets (plain_tree c.args.second.now))) c.in_ok-second.ensures c.resolve-2.ensures.next)
-    (subst (λ r. OnOk r (c.resolve.new.names.next ≡ c.args.names.now.next + brackets (plain_tree c.args.first.now))) c.in_ok-first.ensures c.resolve.ensures.next)
+    c.in_ok-resolve-2.ensures.next c.in_ok-resolve.ensures.next
 
 pub resolve_two-returns-clause-made : goal.resolve_two-returns-clause-made
 resolve_two-returns-clause-made t c =
@@ -56,10 +54,10 @@ resolve_two-returns-clause-made t c =
       | resolve_two-in-Same w ↦ ap plain_formula w.result-is ∙ sym (ap (λ (j : Joint). joined_by j one other) w.in-Same.is)
     ] in
     made
-    ∙ ap (λ (f : Formula). joined_by c.args.joint f other) (subst (λ r. IfOk r (λ made. plain_formula made ≡ first)) c.in_ok-first.ensures c.resolve.ensures.made)
-    ∙ ap (joined_by c.args.joint first) (subst (λ r. IfOk r (λ made. plain_formula made ≡ second (scope_of new) new.next)) c.in_ok-second.ensures c.resolve-2.ensures.made
-    ∙ ap (λ (items : List KeptBinding). second (inside [] items) new.next) (subst (λ r. OnOk r (new.bindings.items ≡ old.bindings.items)) c.in_ok-first.ensures c.resolve.ensures.kept)
-    ∙ ap (second (scope_of old)) (subst (λ r. OnOk r (new.next ≡ old.next + brackets (plain_tree c.args.first.now))) c.in_ok-first.ensures c.resolve.ensures.next))
+    ∙ ap (λ (f : Formula). joined_by c.args.joint f other) (ap plain_formula c.in_ok-first.ensures.ok ∙ c.in_ok-resolve.ensures.made)
+    ∙ ap (joined_by c.args.joint first) (ap plain_formula c.in_ok-second.ensures.ok ∙ c.in_ok-resolve-2.ensures.made
+    ∙ ap (λ (items : List KeptBinding). second (inside [] items) new.next) c.in_ok-resolve.ensures.kept
+    ∙ ap (second (scope_of old)) c.in_ok-resolve.ensures.next)
 
 pub resolve_bracket-returns-in_ok-inner-in-Variable-clause-made : goal.resolve_bracket-returns-in_ok-inner-in-Variable-clause-made
 resolve_bracket-returns-in_ok-inner-in-Variable-clause-made t c =

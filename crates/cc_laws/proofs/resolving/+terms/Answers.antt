@@ -1,11 +1,10 @@
-use Rattle.std.proofs.Common.{◌≡◌, ◌∙◌, ◌++◌, ◌∷◌, [], List, ap, Ok, refl}
+use Rattle.std.proofs.Common.{◌∙◌, List, ap}
 use Rattle.cc_defs.specs.declared.tree.SumTree.{SumTree}
 use Rattle.cc_defs.specs.Resolved.{plain_term}
 use Rattle.cc_defs.specs.Trees.{plain_sum, plain_piece}
-use Rattle.cc_laws.specs.Resolving.{resolve_sum, resolve_sums, resolve_piece}
+use Rattle.cc_laws.specs.Resolving.{resolve_sums}
 use Rattle.cc_laws.specs.Views.{plain_sums, scope_of, row_terms}
 use Rattle.cc_laws.specs.Vocabulary.{vocabulary_of}
-use Rattle.cc_laws.proofs.WithMade.{with_made, in_box}
 use Rattle.cc_laws.proofs.TermRows.{resolved_more, resolved_all, term_resolved, sum_begun, addend_more, addends_done, behind}
 use Rattle.cc_defs.specs.declared.formula.Term.{Term as Kept}
 use Rattle.cc_laws.proofs.resolving.+terms.Goals as goal
@@ -14,8 +13,7 @@ pub resolve_term-loop-argument-preserved : goal.resolve_term-loop-argument-prese
 resolve_term-loop-argument-preserved t c =
     let v = vocabulary_of c.args.table.now in
     let scope = (scope_of c.args.names.now) in
-    with_made c.resolve_sum.result (λ one. plain_term one ≡ resolve_sum v scope (plain_sum c.argument-item.result)) (λ one. c.put_made.new.list.items ≡ c.loop-argument.args.items ++ one ∷ []) c.in_ok-put_made.ensures.made c.in_ok-put_made.ensures.items c.resolve_sum.ensures
-    (λ one is put. resolved_more v scope _ _ c.argument-item.result _ _ one _ c.loop-argument-test.true c.argument-item.is put is c.loop-argument.invariant)
+    resolved_more v scope _ _ c.argument-item.result _ _ _ _ c.loop-argument-test.true c.argument-item.is c.in_ok-push.ensures.items c.in_ok-resolve_sum.ensures c.loop-argument.invariant
 
 pub resolve_term-returns : goal.resolve_term-returns
 resolve_term-returns t c =
@@ -35,10 +33,8 @@ resolve_sum-loop-addend-preserved t c =
     let v = vocabulary_of c.args.table.now in
     let scope = (scope_of c.args.names.now) in
     let d = c.addend-item.result in
-    let both = c.in_ok-first.ensures.made in
     addend_more v scope c.deref-addend-items.result.now c.loop-addend.addend-index d _ _ _ _ _ c.loop-addend-test.true c.addend-item.is
-    (in_box (λ one. plain_term one ≡ plain_term c.loop-addend.made) (Ok c.loop-addend.made) c.boxed.result c.in_ok-first.first both.0 c.boxed.ensures refl)
-    (in_box (λ one. plain_term one ≡ resolve_piece v scope (plain_piece d.piece)) c.resolve_piece-piece.result c.boxed-in-loop-addend.result c.in_ok-first.second both.1 c.boxed-in-loop-addend.ensures c.resolve_piece-piece.ensures)
+    (ap plain_term c.in_ok-first.ensures.ok) (ap plain_term c.in_ok-second.ensures.ok ∙ c.in_ok-resolve_piece.ensures)
     c.joined-made.ensures c.loop-addend.invariant
 
 pub resolve_sum-returns : goal.resolve_sum-returns

@@ -9,8 +9,8 @@ use Rattle.cc_laws.proofs.wide.all_widened.Goals as goal
 
 pub loop-law-preserved : goal.loop-law-preserved
 loop-law-preserved c =
-    yielded_more plain_wide_base widened plain_base_law c.loop-law.yielded c.in-Some.law c.loop-law.made.items c.put_last.new.list.items
-    c.widened.result c.in_ok-put_last.ensures.items c.widened.ensures c.loop-law.invariant
+    yielded_more plain_wide_base widened plain_base_law c.loop-law.yielded c.in-Some.law c.loop-law.made.items c.push.new.self.items
+    c.widened.result c.in_ok-push.ensures.items c.widened.ensures c.loop-law.invariant
 
 pub returns : goal.returns
 returns c =

@@ -25,21 +25,20 @@ returns c =
     let kept = c.in_ok-frame.frame in
     let parts = c.in_ok-parts.ensures in
     let make = built kept.file kept.line in
-    let h = plain_formula c.into_inner.result in
-    let b = plain_formula c.into_inner-2.result in
-    let a = option_map plain_formula c.into_inner-3.result in
-    let t = plain_formula c.into_inner-4.result in
+    let made = c.in_ok-parts.parts in
+    let h = plain_formula made.head in
+    let b = plain_formula made.body in
+    let a = option_map plain_formula made.after in
     let k = c.class_of.result in
     let scope = scope_of kept.names in
     let next = kept.names.next in
     let head = resolve v scope (next + part_brackets law.body + part_brackets law.after) (plain_tree c.args.head.now) in
     let body = part v scope next law.body in
     let after = option_map (resolve v scope (next + part_brackets law.body)) law.after in
-    let test = plain_formula kept.test.value in
-    ap (λ w. make w h b a t k) c.of.ensures
-    ∙ ap (λ w. make kept.ranges.items w b a t k) (ap plain_formula c.into_inner.ensures ∙ parts.head)
-    ∙ ap (λ w. make kept.ranges.items head w a t k) (ap plain_formula c.into_inner-2.ensures ∙ parts.body)
-    ∙ ap (λ w. make kept.ranges.items head body w t k) (ap (option_map plain_formula) c.into_inner-3.ensures ∙ parts.after)
-    ∙ ap (λ w. make kept.ranges.items head body after w k) (ap plain_formula c.into_inner-4.ensures)
+    let test = plain_formula kept.test in
+    ap (λ w. make w h b a test k) c.of.ensures
+    ∙ ap (λ w. make kept.ranges.items w b a test k) parts.head
+    ∙ ap (λ w. make kept.ranges.items head w a test k) parts.body
+    ∙ ap (λ w. make kept.ranges.items head body w test k) parts.after
     ∙ ap (λ w. make kept.ranges.items head body after test w) c.class_of.ensures
     ∙ ap (λ (frame : Frame). whole_law v frame law (plain_tree c.args.head.now)) c.in_ok-frame.ensures

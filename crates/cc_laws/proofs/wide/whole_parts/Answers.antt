@@ -13,7 +13,7 @@ pub returns-clause-body : goal.returns-clause-body
 returns-clause-body c =
     let v = vocabulary_of c.args.table.now in
     let old = c.args.names.now in
-    subst (λ r. IfOk r (λ made. plain_formula made ≡ part v (scope_of old) old.next (plain_caused c.args.law.now c.args.later).body)) c.in_ok-body.ensures c.written_body.ensures.made
+    c.in_ok-body.ensures.made
 
 pub returns-clause-after : goal.returns-clause-after
 returns-clause-after c =
@@ -21,11 +21,11 @@ returns-clause-after c =
     let law = plain_caused c.args.law.now c.args.later in
     let old = c.args.names.now in
     let new = c.written_body.new.names in
-    subst (λ r. IfOk r (λ made. option_map plain_formula made ≡ option_map (resolve v (scope_of new) new.next) law.after)) c.in_ok-after.ensures c.resolve_after.ensures.made
+    c.in_ok-after.ensures.made
     ∙ ap (λ (items : List Binding). option_map (resolve v (inside [] items) new.next) law.after)
-    (subst (λ r. OnOk r (new.bindings.items ≡ old.bindings.items)) c.in_ok-body.ensures c.written_body.ensures.kept)
+    c.in_ok-body.ensures.kept
     ∙ ap (λ (n : ℕ). option_map (resolve v (scope_of old) n) law.after)
-    (subst (λ r. OnOk r (new.next ≡ old.next + part_brackets law.body)) c.in_ok-body.ensures c.written_body.ensures.next)
+    c.in_ok-body.ensures.next
 
 pub returns-clause-head : goal.returns-clause-head
 returns-clause-head c =
@@ -33,11 +33,9 @@ returns-clause-head c =
     let law = plain_caused c.args.law.now c.args.later in
     let head = plain_tree c.args.head.now in
     let old = c.args.names.now in
-    let mid = c.written_body.new.names in
     let new = c.resolve_after.new.names in
-    subst (λ r. IfOk r (λ made. plain_formula made ≡ resolve v (scope_of new) new.next head)) c.in_ok-head.ensures c.resolve.ensures.made
+    c.in_ok-head.ensures.made
     ∙ ap (λ (items : List Binding). resolve v (inside [] items) new.next head)
-    (subst (λ r. OnOk r (new.bindings.items ≡ mid.bindings.items)) c.in_ok-after.ensures c.resolve_after.ensures.kept ∙ subst (λ r. OnOk r (mid.bindings.items ≡ old.bindings.items)) c.in_ok-body.ensures c.written_body.ensures.kept)
+    (c.in_ok-after.ensures.kept ∙ c.in_ok-body.ensures.kept)
     ∙ ap (λ (n : ℕ). resolve v (scope_of old) n head)
-    (subst (λ r. OnOk r (new.next ≡ mid.next + part_brackets law.after)) c.in_ok-after.ensures c.resolve_after.ensures.next
-    ∙ ap (λ (n : ℕ). n + part_brackets law.after) (subst (λ r. OnOk r (mid.next ≡ old.next + part_brackets law.body)) c.in_ok-body.ensures c.written_body.ensures.next))
+    (c.in_ok-after.ensures.next ∙ ap (λ (n : ℕ). n + part_brackets law.after) c.in_ok-body.ensures.next)

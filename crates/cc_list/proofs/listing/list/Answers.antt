@@ -19,9 +19,9 @@ returns-in-Ok g c =
     let read = c.in-Ok.ensures in
     let opened = names_opened read.calls.0 in
     let there = files_stay read.after.0 (λ files. Describes heads.Definite files listing.file c.in-Ok.described) _ _ read.after.1 read.described in
-    prints_opened (listing_promise listing) _ _ _ _ c.list_described-answer.result (all_named _ heads.Definite listing.file opened read.calls.3)
-    (prints_after_read (listing_promise listing) _ opened [] read.after.0 _ _ _ c.list_described-answer.result read.after.1 read.begun read.reads_count read.writes_count
-    (called_reading _ _ read.calls.0 read.calls.1 read.calls.2 read.calls.4) (read.calm (ok_no_err _ _)) (c.list_described-answer.ensures there))
+    prints_opened (listing_promise listing) _ _ _ _ c.list_described.result (all_named _ heads.Definite listing.file opened read.calls.3)
+    (prints_after_read (listing_promise listing) _ opened [] read.after.0 _ _ _ c.list_described.result read.after.1 read.begun read.reads_count read.writes_count
+    (called_reading _ _ read.calls.0 read.calls.1 read.calls.2 read.calls.4) (read.calm (ok_no_err _ _)) (c.list_described.ensures there))
 
 pub returns-in-Err-Refused : goal.returns-in-Err-Refused
 returns-in-Err-Refused g c =

@@ -13,14 +13,14 @@ axioms_behind-axioms-requires-clause-few g c =
     let of = c.requires.of in
     few_axioms of.0 of.1 _ c.args.session.now c.next.new.self c.in-Ok.event c.in-Ok.ensures.same of.4 c.in-Ok.ensures.opened (c.in-Ok.ensures.event of.0 of.1 of.2 of.4 of.5).0
 
-pub tell_next-told-requires-clause-row : goal.tell_next-told-requires-clause-row
-tell_next-told-requires-clause-row g c =
+pub tell_next-requires-clause-row : goal.tell_next-requires-clause-row
+tell_next-requires-clause-row g c =
     let of = c.requires.of in
     event_row of.0 of.1 of.2 c.args.described.now.sig c.args.session.now c.next.new.self c.in-Ok.event c.row.result.now of.4 c.requires.same c.row.ensures
     (c.in-Ok.ensures.event of.0 of.1 of.2 of.4 of.5).0
 
-pub tell_next-told-requires-clause-writable : goal.tell_next-told-requires-clause-writable
-tell_next-told-requires-clause-writable g c =
+pub tell_next-requires-clause-writable : goal.tell_next-requires-clause-writable
+tell_next-requires-clause-writable g c =
     let of = c.requires.of in
     let after = (c.in-Ok.ensures.event of.0 of.1 of.2 of.4 of.5).0 in
     let good : IsGoodEvent of.0 of.1 c.args.session.now.ask.after c.in-Ok.event = record {
@@ -43,13 +43,13 @@ returns-in-Ok-clause-goes g c = λ d q given is is_of after lines keeps.
       few = c.in-Ok.ensures.few;
     } in
     let counted = subst (λ ask. IsCounted (counts_of d q ask.after) c.in-Ok.event c.axioms_behind-axioms.result) same.ask (c.axioms_behind-axioms.ensures.counted d q _ next.0) in
-    event_told d q given c.args.teller.now c.tell_next-told.new.teller c.args.session.now c.next.new.self c.log_laws.ensures c.spent_budgets_are_small.ensures c.requires.budget lines keeps
-    c.in-Ok.event good same c.axioms_behind-axioms.result counted next _ _ c.row.result.now c.tell_next-told.result c.row.ensures
-    (c.tell_next-told.ensures.told d (counts_of d q c.args.session.now.ask.after) given is keeps) c.tell_next-told.ensures.status c.tell_next-told.ensures.keeps
+    event_told d q given c.args.teller.now c.tell_next.new.teller c.args.session.now c.next.new.self c.log_laws.ensures c.spent_budgets_are_small.ensures c.requires.budget lines keeps
+    c.in-Ok.event good same c.axioms_behind-axioms.result counted next _ _ c.row.result.now c.tell_next.result c.row.ensures
+    (c.tell_next.ensures.told d (counts_of d q c.args.session.now.ask.after) given is keeps) c.tell_next.ensures.status c.tell_next.ensures.keeps
 
 pub returns-in-Ok-clause-next : goal.returns-in-Ok-clause-next
 returns-in-Ok-clause-next g c =
-    goes_next c.args.session.now c.next.new.self c.in-Ok.event c.tell_next-told.result c.in-Ok.ensures.same c.in-Ok.ensures.more c.in-Ok.ensures.less c.tell_next-told.ensures.status
+    goes_next c.args.session.now c.next.new.self c.in-Ok.event c.tell_next.result c.in-Ok.ensures.same c.in-Ok.ensures.more c.in-Ok.ensures.less c.tell_next.ensures.status
 
 pub returns-in-Err-Refused-clause-goes : goal.returns-in-Err-Refused-clause-goes
 returns-in-Err-Refused-clause-goes g c = λ d q given is is_of after lines keeps.

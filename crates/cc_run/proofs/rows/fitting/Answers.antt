@@ -1,7 +1,7 @@
 use Rattle.std.proofs.Common.{subst, ◌≤◌}
 use Rattle.cc_defs.specs.Description.{sizes_at}
 use Rattle.cc_defs.specs.Rows.{IsRow}
-use Rattle.cc_run.proofs.Explained.{no_indexes, no_row, too_far}
+use Rattle.cc_run.proofs.WhyTold.{no_indexes, no_row, too_far}
 use Rattle.cc_run.proofs.rows.fitting.Goals as goal
 
 pub returns-then-key-number-clause-refused : goal.returns-then-key-number-clause-refused

@@ -1,4 +1,4 @@
-use Rattle.cc_run.proofs.Explained.{exit_grounding, exit_row, exit_rules}
+use Rattle.cc_run.proofs.WhyTold.{exit_grounding, exit_row, exit_rules}
 use Rattle.cc_list.proofs.Named.{signature_of}
 use Rattle.cc_run.proofs.rows.look_at.Goals as goal
 

@@ -1,7 +1,7 @@
 use Rattle.std.proofs.Common.{subst}
 use Rattle.std.specs.Prelude.{◌↔◌, IsTrue}
 use Rattle.cc_defs.specs.Paths.{IsPath}
-use Rattle.cc_run.proofs.Explained.{rules_fit}
+use Rattle.cc_run.proofs.WhyTold.{rules_fit}
 use Rattle.cc_run.proofs.rows.row_is_path.Goals as goal
 
 pub returns-clause-unrefused : goal.returns-clause-unrefused

@@ -1,4 +1,4 @@
-use Rattle.cc_run.proofs.Explained.{no_row_spelled}
+use Rattle.cc_run.proofs.WhyTold.{no_row_spelled}
 use Rattle.cc_run.proofs.rows.row_named.Goals as goal
 
 pub returns-in-Some-clause-refused : goal.returns-in-Some-clause-refused

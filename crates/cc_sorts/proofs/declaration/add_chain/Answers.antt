@@ -15,7 +15,7 @@ loop-name-preserved c = record {
 
 pub returns : goal.returns
 returns c = λ file line.
-    chain-all c.args.found.now.items c.put_last.new.list.items c.loop-name.found.items (λ name. name.now) (plain_declaration file line)
+    chain-all c.args.found.now.items c.push.new.self.items c.loop-name.found.items (λ name. name.now) (plain_declaration file line)
     c.in-Some.first.now c.loop-name.upper c.in-Some.lower.now _ c.loop-name.name-index c.loop-name-test.false
-    c.in_ok-put_last.ensures.items refl (c.loop-name.invariant.whole file line)
+    c.in_ok-push.ensures.items refl (c.loop-name.invariant.whole file line)
     ∙ ap (λ names. plain_declarations file line c.args.found.now.items ++ sort_declarations (Chain (map (λ name. name.now) names))) (sym c.in-Some.ensures.cases.0)

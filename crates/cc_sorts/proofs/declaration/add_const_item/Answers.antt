@@ -1,5 +1,4 @@
 use Rattle.std.proofs.Common.{ap, ◌∙◌, ◌++◌, List, ◌∷◌, [], append_assoc, map}
-use Rattle.std.proofs.lemmas.Result.{on_ok_weaker}
 use Rattle.cc_defs.specs.Declarations.{Declaration, Constant, Kinds}
 use Rattle.cc_defs.specs.Trees.{plain_shape, plain_kind}
 use Rattle.cc_defs.specs.declared.tree.Shape.{Shape}
@@ -11,9 +10,7 @@ pub returns : goal.returns
 returns c = λ file line.
     let kinds = Kinds (map plain_shape c.args.item.now.shapes) (plain_kind c.args.item.now.kind)
     in let shapes : List Shape → List Declaration = λ items. map (λ shape. Constant shape (plain_kind c.args.item.now.kind) file line) (map plain_shape items)
-    in on_ok_weaker c.put_last.result (λ items.
-    pushed-last (plain_declaration file line) c.add_constants.new.found.items c.put_last.new.list.items _ items
+    in pushed-last (plain_declaration file line) c.add_constants.new.found.items c.push.new.self.items _ c.in_ok-push.ensures.items
     ∙ ap (λ xs. xs ++ kinds ∷ []) (c.in_ok-add_constants.ensures file line)
     ∙ ap (λ items. (plain_declarations file line c.args.found.now.items ++ shapes items) ++ kinds ∷ []) c.items.ensures
-    ∙ append_assoc (plain_declarations file line c.args.found.now.items) (shapes c.args.item.now.shapes) (kinds ∷ []))
-    c.put_last.ensures.items
+    ∙ append_assoc (plain_declarations file line c.args.found.now.items) (shapes c.args.item.now.shapes) (kinds ∷ [])

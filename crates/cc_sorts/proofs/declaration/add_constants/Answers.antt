@@ -8,7 +8,7 @@ use Rattle.cc_sorts.proofs.declaration.add_constants.Goals as goal
 pub loop-shape-preserved : goal.loop-shape-preserved
 loop-shape-preserved c = λ file line.
     added-more (plain_declaration file line) _ c.args.found.now.items c.loop-shape.found.items _ c.args.shapes.now c.loop-shape.shape-index _ c.shape-item.result
-    (omega (arith, c.loop-shape-test.true)) c.in_ok-put_last.ensures.items
+    (omega (arith, c.loop-shape-test.true)) c.in_ok-push.ensures.items
     (ap (λ shape. Constant (plain_shape shape) (plain_kind c.args.kind.now) file line ∷ []) c.shape-item.is) (c.loop-shape.invariant file line)
 
 pub returns : goal.returns

@@ -7,7 +7,7 @@ use Rattle.cc_sorts.proofs.declaration.add_variables.Goals as goal
 pub loop-name-preserved : goal.loop-name-preserved
 loop-name-preserved c = λ file line.
     added-more (plain_declaration file line) _ c.args.found.now.items c.loop-name.found.items _ c.args.names.now c.loop-name.name-index _ _
-    (omega (arith, c.loop-name-test.true)) c.in_ok-put_last.ensures.items refl (c.loop-name.invariant file line)
+    (omega (arith, c.loop-name-test.true)) c.in_ok-push.ensures.items refl (c.loop-name.invariant file line)
 
 pub returns : goal.returns
 returns c = λ file line.

@@ -6,11 +6,11 @@ use Rattle.cc_sorts.proofs.Upward.{upper_added, texts_pushed, Keys}
 use Rattle.cc_sorts.proofs.left.add_upper.Goals as goal
 
 pub returns-in-Some : goal.returns-in-Some
-returns-in-Some c = on_ok_weaker c.put_last.result (λ items other.
-    let written = c.get_mut.follows.holds c.put_last.new.list in
-    upper_added c.args.uppers_of.now.entries (c.get_mut.follows.lender c.put_last.new.list).entries c.put_last.new.list c.args.upper.now c.args.lower.now other
-    (texts_pushed c.put_last.new.list c.in-Some.uppers.now.items c.args.upper _ items (ap texts_of c.in-Some.ensures.value))
-    ((written.3 (subst IsSome c.in-Some.ensures.value refl)).0 (record { ref_ptr = (0, 0); now = other.1 }))) c.put_last.ensures.items
+returns-in-Some c = λ other.
+    let written = c.get_mut.follows.holds c.push.new.self in
+    upper_added c.args.uppers_of.now.entries (c.get_mut.follows.lender c.push.new.self).entries c.push.new.self c.args.upper.now c.args.lower.now other
+    (texts_pushed c.push.new.self c.in-Some.uppers.now.items c.args.upper _ c.in_ok-push.ensures.items (ap texts_of c.in-Some.ensures.value))
+    ((written.3 (subst IsSome c.in-Some.ensures.value refl)).0 (record { ref_ptr = (0, 0); now = other.1 }))
 
 pub returns : goal.returns
 returns c = on_ok_weaker c.put_entry.result (λ updates other.

@@ -33,16 +33,16 @@ show_each-requires-clause-fresh c = λ fresh.
 
 pub returns-clause-lists : goal.returns-clause-lists
 returns-clause-lists c =
-    put_lists c.args.puts.now.items c.put_last.new.list.items c.args.put c.args.sorts.now c.add_object.new.self c.args.put.sort c.len-number.result c.above-2.result.now
+    put_lists c.args.puts.now.items c.push.new.self.items c.args.put c.args.sorts.now c.add_object.new.self c.args.put.sort c.len-number.result c.above-2.result.now
     (lists_of c.args.lists.now.items) (lists_of c.reserve_each.new.lists.items) (lists_of c.show_each.new.lists.items)
     c.requires.as_many c.requires.past c.requires.shown c.reserve_each.ensures.same (c.len-number.ensures ∙ c.args.puts.now.ok.0) c.in_ok-add_object.ensures.added
-    (c.in_ok-put_last.ensures.items ∙ ap (λ items. items ++ c.args.put ∷ []) c.reserve.ensures.items) c.above-2.ensures c.show_each.ensures.shown
+    (c.in_ok-push.ensures.items ∙ ap (λ items. items ++ c.args.put ∷ []) c.reserve.ensures.items) c.above-2.ensures c.show_each.ensures.shown
 
 pub returns-clause-added : goal.returns-clause-added
 returns-clause-added c = on_ok c.show_each.result _ (c.in_ok-add_object.ensures.added ∙ ap (with_object c.args.sorts.now c.args.put.sort) (c.len-number.ensures ∙ c.args.puts.now.ok.0))
 
 pub returns-clause-put : goal.returns-clause-put
-returns-clause-put c = on_ok c.show_each.result _ (c.in_ok-put_last.ensures.items ∙ ap (λ items. items ++ c.args.put ∷ []) c.reserve.ensures.items)
+returns-clause-put c = on_ok c.show_each.result _ (c.in_ok-push.ensures.items ∙ ap (λ items. items ++ c.args.put ∷ []) c.reserve.ensures.items)
 
 pub above-requires-2 : goal.above-requires-2
 above-requires-2 c = subst (λ (w : SortsView). c.args.put.sort < length w.names) (sym c.in_ok-add_object.ensures.added) c.requires.sort

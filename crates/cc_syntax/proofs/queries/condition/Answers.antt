@@ -8,9 +8,9 @@ use Rattle.cc_syntax.specs.Readers.{listed_at, ◌>>=◌}
 use Rattle.cc_syntax.specs.Views.{seen}
 use Rattle.cc_syntax.proofs.queries.condition.Goals as goal
 
-pub returns-in-Ok : goal.returns-in-Ok
-returns-in-Ok c =
+pub returns : goal.returns
+returns c =
     let make : List PlainTree × List Terminal → Option (PlainQueryItem × List Terminal) = λ read. Some (Condition c.args.claim c.args.step read.0, read.1) in
     ap (λ (o : Option (List Terminal)). (o >>= listed_at formula_at marks.Comma) >>= make) c.in_ok-next.ensures
-    ∙ ap (λ (o : Option (List PlainTree × List Terminal)). o >>= make) c.in-Ok.ensures
-    ∙ sym (ap (λ (items : List Tree). make (map plain_tree items, drop c.in-Ok.next (seen c.args.tokens.now))) c.of-parts.ensures)
+    ∙ ap (λ (o : Option (List PlainTree × List Terminal)). o >>= make) c.in_ok-parts.ensures
+    ∙ sym (ap (λ (items : List Tree). make (map plain_tree items, drop c.in_ok-parts.next (seen c.args.tokens.now))) c.of-parts.ensures)

@@ -15,12 +15,12 @@ addends_within-returns-in_err-piece t c =
     stopped _ c.args.tokens.now c.from_residual.result c.in_err-piece.field-0.0 _ c.from_residual.ensures.1
     (λ e. c.loop.invariant ∙ addends-refused (term_from c.args.steps) _ _ _ _ _ (omega arith) (sym c.in-Some.ensures) (no-tree plain_piece c.args.tokens.now _ _ c.in_err-piece.ensures e))
 
-pub addends_within-returns-in_err-put_last : goal.addends_within-returns-in_err-put_last
-addends_within-returns-in_err-put_last t c = out-of-memory _ c.args.tokens.now _ _ c.from_residual-in_err-put_last.ensures.1
+pub addends_within-returns-in_err-push : goal.addends_within-returns-in_err-push
+addends_within-returns-in_err-push t c = out-of-memory _ c.args.tokens.now _ _ c.from_residual-in_err-push.ensures.1
 
 pub addends_within-loop-preserved : goal.addends_within-loop-preserved
 addends_within-loop-preserved t c =
-    addends-continued (term_from c.args.steps) _ _ _ _ _ _ _ _ _ c.loop.invariant (omega arith) (omega arith) c.in_ok-put_last.ensures (sym c.in-Some.ensures) c.in_ok-piece.ensures
+    addends-continued (term_from c.args.steps) _ _ _ _ _ _ _ _ _ c.loop.invariant (omega arith) (omega arith) c.in_ok-push.ensures.items (sym c.in-Some.ensures) c.in_ok-piece.ensures
 
 pub addends_within-returns-in_default : goal.addends_within-returns-in_default
 addends_within-returns-in_default t c = c.loop.invariant ∙ addends-ended (term_from c.args.steps) _ _ _ (sym c.in_default.ensures)
@@ -33,8 +33,8 @@ term_within-returns-in_err-arg t c =
     stopped _ c.args.tokens.now c.from_residual.result c.in_err-arg.field-0.0 _ c.from_residual.ensures.1
     (λ e. arg-refused c.args.steps _ _ _ (omega arith) c.in-Ok.ensures _ _ _ (omega arith) c.loop-left.invariant.0 (no-tree plain_sum c.args.tokens.now _ _ c.in_err-arg.ensures e))
 
-pub term_within-returns-in_err-put_last : goal.term_within-returns-in_err-put_last
-term_within-returns-in_err-put_last t c = out-of-memory _ c.args.tokens.now _ _ c.from_residual-in_err-put_last.ensures.1
+pub term_within-returns-in_err-push : goal.term_within-returns-in_err-push
+term_within-returns-in_err-push t c = out-of-memory _ c.args.tokens.now _ _ c.from_residual-in_err-push.ensures.1
 
 pub term_within-returns : goal.term_within-returns
 term_within-returns t c = args-spent c.args.steps _ _ _ (omega arith) c.in-Ok.ensures _ _ _ (omega arith) c.loop-left.invariant.0
@@ -44,7 +44,7 @@ term_within-loop-left-preserved t c = (
   c.loop-left.invariant.0
       ∙ arg-more _ _ _ (omega arith) _ _ c.in_ok-arg.ensures _ c.in-Ok-sign.ensures
       ∙ ap (λ (found : List PlainSum). args_from (c.loop-left.left - 1) found (drop c.in-Ok-sign.behind (seen c.args.tokens.now)))
-      (sym (plain_pushed plain_sum c.loop-left.args.items c.put_last.new.list.items c.in_ok-arg.arg c.in_ok-put_last.ensures)),
+      (sym (plain_pushed plain_sum c.loop-left.args.items c.push.new.self.items c.in_ok-arg.arg c.in_ok-push.ensures.items)),
   (let least = c.loop-left.invariant.1 in omega arith),
 )
 
@@ -59,7 +59,7 @@ term_within-returns-in-Err t c =
     args-read c.args.steps _ _ _ (omega arith) c.in-Ok.ensures _ _ _ (omega arith) c.loop-left.invariant.0 _ _ c.in_ok-arg.ensures
     _ (not-passed c.args.tokens.now _ _ c.in-Err.ensures) c.in_ok-end-in-Err.ensures
     ∙ ap (λ (term : PlainTerm). Some (term, drop c.in_ok-end-in-Err.end (seen c.args.tokens.now)))
-    (plain_applied (record { name = c.in-Ok.call.0; args = c.put_last.new.list }) c.loop-left.args.items c.in_ok-arg.arg c.in_ok-put_last.ensures)
+    (plain_applied (record { name = c.in-Ok.call.0; args = c.push.new.self }) c.loop-left.args.items c.in_ok-arg.arg c.in_ok-push.ensures.items)
 
 pub sum_within-returns : goal.sum_within-returns
 sum_within-returns t c =

@@ -13,8 +13,8 @@ loop-law-init c = ap (λ (l : List Kept). map plain_base_law l ++ map (base_by c
 pub loop-law-preserved : goal.loop-law-preserved
 loop-law-preserved c =
     let left : List WideBase → List BaseLaw = λ laws. map (base_by c.args.share) (map plain_wide_base laws) in
-    copied_more plain_base_law left (λ law. base_by c.args.share (plain_wide_base law)) (λ z zs. refl) c.args.laws.now c.loop-law.law-index c.law-item.result c.loop-law.made.items c.put_made.new.list.items c.base_of_share.result _
-    c.loop-law-test.true c.law-item.is c.base_of_share.ensures c.in_ok-put_made.ensures.made c.in_ok-put_made.ensures.items c.loop-law.invariant
+    copied_more plain_base_law left (λ law. base_by c.args.share (plain_wide_base law)) (λ z zs. refl) c.args.laws.now c.loop-law.law-index c.law-item.result c.loop-law.made.items c.push.new.self.items _ _
+    c.loop-law-test.true c.law-item.is c.in_ok-base_of_share.ensures c.in_ok-push.ensures.items c.loop-law.invariant
 
 pub returns : goal.returns
 returns c =

@@ -1,25 +1,27 @@
 use Rattle.std.proofs.Common.{ap, map, sym, ◌++◌, ◌∷◌, [], ◌∙◌}
 use Rattle.std.proofs.lemmas.List.{map-append}
-use Rattle.std.proofs.lemmas.Result.{on_ok_weaker}
 use Rattle.cc_defs.specs.Resolved.{plain_query}
 use Rattle.cc_describe.specs.declared.progress.Progress.{Progress}
 use Rattle.cc_describe.proofs.progress.Progress.keep.Goals as goal
 
-pub returns-in-Ok-clause-kept : goal.returns-in-Ok-clause-kept
-returns-in-Ok-clause-kept c =
-    on_ok_weaker c.put_last.result
-    (λ is. ap (λ l. map plain_query l) is ∙ map-append plain_query c.label.new.self.queries.items (c.args.query ∷ []) ∙ ap (λ p. map plain_query p.queries.items ++ plain_query c.args.query ∷ []) c.label.ensures.rest)
-    c.put_last.ensures.put
+pub returns-clause-kept : goal.returns-clause-kept
+returns-clause-kept c =
+    ap (λ l. map plain_query l) c.in_ok-push.ensures.items ∙ map-append plain_query c.label.new.self.queries.items (c.args.query ∷ []) ∙ ap (λ p. map plain_query p.queries.items ++ plain_query c.args.query ∷ []) c.label.ensures.rest
 
-pub returns-in-Ok-clause-labelled : goal.returns-in-Ok-clause-labelled
-returns-in-Ok-clause-labelled c fresh = on_ok_weaker c.put_last.result (λ is. c.in-Ok.ensures.labelled fresh) c.put_last.ensures.put
+pub returns-clause-labelled : goal.returns-clause-labelled
+returns-clause-labelled c fresh = c.in_ok-label.ensures.labelled fresh
 
-pub returns-in-Ok-clause-rest : goal.returns-in-Ok-clause-rest
-returns-in-Ok-clause-rest c =
-    let put : Progress → Progress = λ p. record p { queries = c.put_last.new.list } in
+pub returns-clause-rest : goal.returns-clause-rest
+returns-clause-rest c =
+    let put : Progress → Progress = λ p. record p { queries = c.push.new.self } in
     ap put c.label.ensures.rest
 
-pub returns-in-Err-clause-rest : goal.returns-in-Err-clause-rest
-returns-in-Err-clause-rest c =
+pub returns-in_err-push-clause-rest : goal.returns-in_err-push-clause-rest
+returns-in_err-push-clause-rest c =
+    let put : Progress → Progress = λ p. record p { queries = c.push.new.self } in
+    ap put c.label.ensures.rest
+
+pub returns-in_err-label-clause-rest : goal.returns-in_err-label-clause-rest
+returns-in_err-label-clause-rest c =
     let put : Progress → Progress = λ p. record c.args.self.now { queries = p.queries; labels = c.label.new.self.labels } in
     c.label.ensures.rest ∙ ap put (sym c.label.ensures.rest)

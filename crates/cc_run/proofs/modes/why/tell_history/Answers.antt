@@ -9,7 +9,7 @@ use Rattle.cc_why.specs.declared.cause.Cause.{Cause}
 use Rattle.cc_tell_modes.proofs.CauseLines.{cause_each, row_atoms}
 use Rattle.cc_tell.proofs.GivenSteps.{one_as, step_again, step_done, step_nothing}
 use Rattle.cc_list.proofs.DescribedNames.{laws_of, names_of}
-use Rattle.cc_run.proofs.Explained.{stopped_so, tells_history}
+use Rattle.cc_run.proofs.WhyTold.{stopped_so, tells_history}
 use Rattle.cc_list.proofs.Named.{signature_of}
 use Rattle.cc_run.proofs.modes.why.tell_history.Goals as goal
 

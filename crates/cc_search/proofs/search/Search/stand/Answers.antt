@@ -1,11 +1,9 @@
 use Rattle.std.proofs.Common.{subst, sym}
-use Rattle.cc_search.specs.declared.stage.Stage.{Stage}
 use Rattle.cc_search.specs.Searches.{SearchView, IsReady}
 use Rattle.cc_search.proofs.search.Search.stand.Goals as goal
 
 pub invariant_of-self : goal.invariant_of-self
 invariant_of-self c = record {
   budget = c.self.invariant.budget;
-  ready = subst (λ (g : Stage). IsReady c.self.inside.ask g) (sym c.replace-before.ensures.after)
-      (subst (λ (v : SearchView). IsReady v.ask c.args.stage) (sym c.self.view_is) c.requires);
+  ready = subst (λ (v : SearchView). IsReady v.ask c.args.stage) (sym c.self.view_is) c.requires;
 }

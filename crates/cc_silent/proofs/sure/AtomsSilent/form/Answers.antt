@@ -20,14 +20,14 @@ pub returns-clause-made : goal.returns-clause-made
 returns-clause-made c = λ of is.
     let at = subst (λ (s : AtomsView). AreAtomsOf s of.0 of.1) (sym c.self.view_is) is in
     let made = c.in_ok-form.ensures.made of.0 of.1 at.laws at.query in
-    let right = c.requires.right of is in
+    let right = (c.requires.right of is).1 in
     made_with of.0 of.1 c.args.heading.now c.in_ok-form.form made right c.form_with.result (c.form_with.ensures.made (has_atom of.0 of.1 c.args.heading.now c.in_ok-form.form made right))
 
 pub returns-clause-within : goal.returns-clause-within
 returns-clause-within c = λ of is.
     let at = subst (λ (s : AtomsView). AreAtomsOf s of.0 of.1) (sym c.self.view_is) is in
     let made = c.in_ok-form.ensures.made of.0 of.1 at.laws at.query in
-    let right = c.requires.right of is in
+    let right = (c.requires.right of is).1 in
     within_with of.0 of.1 c.args.heading.now c.in_ok-form.form made right (c.in_ok-form.ensures.within of.0 of.1 at.laws at.query) c.form_with.result
     (c.form_with.ensures.within (has_atom of.0 of.1 c.args.heading.now c.in_ok-form.form made right))
 
@@ -35,6 +35,6 @@ pub returns-clause-refused : goal.returns-clause-refused
 returns-clause-refused c = λ of is.
     let at = subst (λ (s : AtomsView). AreAtomsOf s of.0 of.1) (sym c.self.view_is) is in
     let made = c.in_ok-form.ensures.made of.0 of.1 at.laws at.query in
-    let right = c.requires.right of is in
+    let right = (c.requires.right of is).1 in
     refused_with of.0 of.1 c.args.heading.now c.in_ok-form.form made right (c.in_ok-form.ensures.within of.0 of.1 at.laws at.query) c.form_with.result
     (c.form_with.ensures.refused (has_atom of.0 of.1 c.args.heading.now c.in_ok-form.form made right))

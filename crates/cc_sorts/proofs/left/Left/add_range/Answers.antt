@@ -1,7 +1,6 @@
 use Rattle.std.proofs.Common.{◌∙◌, ◌||◌, List, ℕ, refl, sym, ap}
 use Rattle.std.specs.List.{list_any, find}
 use Rattle.std.specs.Option.{option_map, option_or}
-use Rattle.std.proofs.lemmas.Result.{on_ok_weaker}
 use Rattle.cc_defs.specs.DeclarationFaults.{same_pair}
 use Rattle.cc_defs.specs.Declarations.{Declared, Pair, sort_named, pair_declared, constant_declared, from_to}
 use Rattle.cc_defs.specs.Grammar.{same_text}
@@ -12,7 +11,7 @@ use Rattle.cc_sorts.proofs.Ranges.{range_added, flat_none, takes_none}
 use Rattle.cc_sorts.proofs.left.Left.add_range.Goals as goal
 
 pub returns : goal.returns
-returns c = on_ok_weaker c.put_last.result (λ items. record {
+returns c = record {
   table_is = refl;
   linked = λ linked. linked;
   uppers_are = λ name. sym (ap (λ (w : List Pair). left_has_upper c.args.self.now name || list_any (λ (pair : Pair). same_text name pair.0) w) (flat_none pair_declared c.args.sort.now (from_to c.args.low c.args.high) (λ value. refl))
@@ -22,7 +21,7 @@ returns c = on_ok_weaker c.put_last.result (λ items. record {
   sorts_are = λ name. sym (ap (λ (w : List (List ℕ)). left_has_sort c.args.self.now name || list_any (same_text name) w) (flat_none sort_named c.args.sort.now (from_to c.args.low c.args.high) (λ value. refl))
       ∙ or_false (left_has_sort c.args.self.now name));
   names_are = λ name. sym (ap (λ t. left_has_name c.args.self.now name || t) (takes_none name c.args.sort.now (from_to c.args.low c.args.high)) ∙ or_false (left_has_name c.args.self.now name));
-  numbers_are = λ low high sort. range_added (table_has_from c.args.self.now.table.now low high sort) low high sort c.args.self.now.ranges.items c.put_last.new.list.items _ items;
+  numbers_are = λ low high sort. range_added (table_has_from c.args.self.now.table.now low high sort) low high sort c.args.self.now.ranges.items c.push.new.self.items _ c.in_ok-push.ensures.items;
   pairs_are = λ pair. sym (ap (λ (w : List Pair). left_has_pair c.args.self.now pair || list_any (same_pair pair) w) (flat_none pair_declared c.args.sort.now (from_to c.args.low c.args.high) (λ value. refl))
       ∙ or_false (left_has_pair c.args.self.now pair));
-}) c.put_last.ensures.items
+}

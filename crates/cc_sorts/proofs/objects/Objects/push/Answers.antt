@@ -1,6 +1,5 @@
 use Rattle.std.proofs.Common.{arith, ◌∙◌, ap, refl, subst, sym}
-use Rattle.cc_sorts.proofs.Walks.{on_err, on_done, ok_done}
-use Rattle.std.proofs.lemmas.Result.{on_ok_weaker}
+use Rattle.cc_sorts.proofs.Walks.{on_err}
 use Rattle.cc_sorts.proofs.Placing.{objects_more, seen_more, objects_stay, seen_stays}
 use Rattle.cc_sorts.specs.Dictionaries.{names_of, number_of}
 use Rattle.cc_sorts.specs.Objects.{AreFound, ObjectsView}
@@ -14,17 +13,19 @@ returns-in_err-reserve-clause-unchanged c = rw (c.reserve.ensures.items) (on_err
 
 pub invariant_of-self-2 : goal.invariant_of-self-2
 invariant_of-self-2 c =
-    objects_more c.self.inside.names c.push.new.self c.self.inside.numbers.items c.reserve.new.self.items c.deref.result.now c.put_last.new.list.items c.note.new.places.entries (c.args.name.now, c.args.sort) c.args.number
-    c.self.invariant.as_many c.in_ok-push.ensures.added c.reserve.ensures.items c.deref.ensures.value (ok_done c.put_last.result _ (c.put_last.ensures.succeeds (omega (arith, c.in_ok-reserve.ensures.ok))) c.put_last.ensures.items) c.in_ok-note.ensures.noted
+    objects_more c.self.inside.names c.push.new.self c.self.inside.numbers.items c.reserve.new.self.items c.deref.result.now c.push-2.new.self.items c.note.new.places.entries (c.args.name.now, c.args.sort) c.args.number
+    c.self.invariant.as_many c.in_ok-push.ensures.added c.reserve.ensures.items c.deref.ensures.value c.in_ok-push-2.ensures.items c.in_ok-note.ensures.noted
 
 pub returns-clause-added : goal.returns-clause-added
 returns-clause-added c =
-    on_ok_weaker c.put_last.result
-    (seen_more c.self.inside.names c.push.new.self c.self.inside.numbers.items c.reserve.new.self.items c.put_last.new.list.items c.args.self.now c.args.name.now c.args.sort c.args.number c.self.view_is
-    c.in_ok-push.ensures.added c.reserve.ensures.items) c.put_last.ensures.items
+    seen_more c.self.inside.names c.push.new.self c.self.inside.numbers.items c.reserve.new.self.items c.push-2.new.self.items c.args.self.now c.args.name.now c.args.sort c.args.number c.self.view_is
+    c.in_ok-push.ensures.added c.reserve.ensures.items c.in_ok-push-2.ensures.items
 
-pub returns-clause-unchanged : goal.returns-clause-unchanged
-returns-clause-unchanged c = on_done c.put_last.result _ (c.put_last.ensures.succeeds (omega (arith, c.in_ok-reserve.ensures.ok)))
+pub invariant_of-self-in_err-push-2 : goal.invariant_of-self-in_err-push-2
+invariant_of-self-in_err-push-2 c = absurd (let room = c.in_ok-reserve.ensures.ok in let full = c.in_err-push-2.ensures.full in omega arith)
+
+pub returns-in_err-push-2-clause-unchanged : goal.returns-in_err-push-2-clause-unchanged
+returns-in_err-push-2-clause-unchanged c = absurd (let room = c.in_ok-reserve.ensures.ok in let full = c.in_err-push-2.ensures.full in omega arith)
 
 pub invariant_of-self-in_err-push : goal.invariant_of-self-in_err-push
 invariant_of-self-in_err-push c = objects_stay c.self.inside.names c.push.new.self c.self.inside.numbers.items c.reserve.new.self.items c.deref.result.now c.note.new.places.entries c.self.invariant.as_many c.in_err-push.ensures.unchanged c.reserve.ensures.items c.deref.ensures.value c.note.ensures.kept

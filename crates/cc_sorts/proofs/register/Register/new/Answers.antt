@@ -8,6 +8,6 @@ use Rattle.cc_sorts.proofs.register.Register.new.Goals as goal
 
 pub invariant_of-result : goal.invariant_of-result
 invariant_of-result c =
-    fits_first c.in_ok-sorts.sorts c.in_ok-puts.puts.items (lists_of c.in_ok-lists.lists.items) c.in_ok-sorts.objects.named c.new-2.result c.new-3.result
-    (subst (λ r. IfOk r (λ (made : SortsView). made ≡ first_sorts)) c.in_ok-sorts.ensures.0 c.new.ensures) c.in_ok-puts.ensures c.in_ok-lists.ensures
-    (subst (λ r. IfOk r (λ (made : ObjectsView). made.named ≡ first_table.objects)) c.in_ok-sorts.ensures.1 c.first_objects.ensures.named) c.new-2.ensures c.new-3.ensures
+    fits_first c.in_ok-sorts.sorts c.in_ok-puts.puts.items (lists_of c.in_ok-lists.lists.items) c.in_ok-objects.objects.named c.new-2.result c.new-3.result
+    c.in_ok-sorts.ensures c.in_ok-puts.ensures c.in_ok-lists.ensures
+    c.in_ok-objects.ensures.named c.new-2.ensures c.new-3.ensures

@@ -7,6 +7,6 @@ use Rattle.cc_sorts.proofs.register.Register.write_rows.Goals as goal
 
 pub loop-args-preserved : goal.loop-args-preserved
 loop-args-preserved c =
-    mapped_end (constant_by (shown c.args.self.now).sorts c.args.number c.args.symbol.now) c.args.written.now.items c.loop-args.written.items c.put_last.new.list.items c.loop-args.yielded c.in-Some.args _
+    mapped_end (constant_by (shown c.args.self.now).sorts c.args.number c.args.symbol.now) c.args.written.now.items c.loop-args.written.items c.push.new.self.items c.loop-args.yielded c.in-Some.args _
     c.loop-args.invariant
-    (ap (λ (w : List ℕ). (let made : Const = record { symbol = c.args.number; args = c.in-Some.args; kind = c.args.symbol.now.kind; domain = w } in made)) c.in_ok-values.ensures) c.in_ok-put_last.ensures.items
+    (ap (λ (w : List ℕ). (let made : Const = record { symbol = c.args.number; args = c.in-Some.args; kind = c.args.symbol.now.kind; domain = w } in made)) c.in_ok-values.ensures) c.in_ok-push.ensures.items

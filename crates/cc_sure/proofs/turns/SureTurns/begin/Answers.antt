@@ -6,10 +6,10 @@ pub stand-requires : goal.stand-requires
 stand-requires c =
     let (most, examples, position, never) = c.requires.ready in
     begin_ready c.args.self.now c.args.form c.args.row c.requires.low examples position never c.requires.opened c.requires.found
-    (let least = c.variables-last.ensures.least in let top = c.variables-last.ensures.most in omega arith) c.add_example.new.self c.in-Ok.ensures.added
+    (let least = c.variables-last.ensures.least in let top = c.variables-last.ensures.most in omega arith) c.add_example.new.self c.in_ok-row.ensures.added
 
-pub returns-in-Ok-clause-gives : goal.returns-in-Ok-clause-gives
-returns-in-Ok-clause-gives c =
+pub returns-clause-gives : goal.returns-clause-gives
+returns-clause-gives c =
     let (most, examples, position, never) = c.requires.ready in
-    begin_gives c.args.self.now c.args.form c.args.row c.in-Ok.row c.requires.low examples position never c.requires.opened c.requires.found
-    (let least = c.variables-last.ensures.least in let top = c.variables-last.ensures.most in omega arith) c.add_example.new.self c.stand.new.self c.in-Ok.ensures.added c.stand.ensures c.in-Ok.ensures.copied
+    begin_gives c.args.self.now c.args.form c.args.row c.in_ok-row.row c.requires.low examples position never c.requires.opened c.requires.found
+    (let least = c.variables-last.ensures.least in let top = c.variables-last.ensures.most in omega arith) c.add_example.new.self c.stand.new.self c.in_ok-row.ensures.added c.stand.ensures c.in_ok-row.ensures.copied

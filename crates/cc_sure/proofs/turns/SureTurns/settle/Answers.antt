@@ -16,7 +16,7 @@ pass_position-requires-clause-most c = settle_most c.args.self.now c.args.form c
 pub stand-requires : goal.stand-requires
 stand-requires c = settle_ready c.args.self.now c.args.form c.requires.asking c.requires.all c.pass_position.new.self c.pass_position.ensures
 
-pub returns-in-Ok-clause-gives : goal.returns-in-Ok-clause-gives
-returns-in-Ok-clause-gives c =
-    settle_gives c.args.self.now c.args.form c.requires.asking c.requires.all c.atom-position.result.0 c.in-Ok.answers c.pass_position.new.self c.stand.new.self
-    c.in-Ok.ensures.answers c.in-Ok.ensures.all c.pass_position.ensures c.stand.ensures c.atom-position.ensures.position
+pub returns-clause-gives : goal.returns-clause-gives
+returns-clause-gives c =
+    settle_gives c.args.self.now c.args.form c.requires.asking c.requires.all c.atom-position.result.0 c.in_ok-answers.answers c.pass_position.new.self c.stand.new.self
+    c.in_ok-answers.ensures.answers c.in_ok-answers.ensures.all c.pass_position.ensures c.stand.ensures c.atom-position.ensures.position

@@ -1,0 +1,10 @@
+pub mod Accepted
+pub mod Ended
+pub mod GeneralTexts
+pub mod Generally
+pub mod Meanings
+pub mod Nones
+pub mod Printed
+pub mod SureMeanings
+pub mod Surely
+pub mod Valued

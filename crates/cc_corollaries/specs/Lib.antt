@@ -1,0 +1,5 @@
+pub mod AcceptedLogs
+pub mod Corollaries
+pub mod Models
+pub mod Ran
+pub mod Values

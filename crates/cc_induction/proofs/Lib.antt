@@ -1,0 +1,6 @@
+mod Fitting
+mod Inducing
+mod Kept
+mod Later
+mod Sought
+mod Stepping
