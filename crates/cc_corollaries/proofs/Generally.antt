@@ -25,7 +25,7 @@ use Rattle.cc_words.specs.Requests.{Generally, ToListGenerally}
 -- ---- what was asked, and how it ended
 
 -- a name has one query
-same_wide : OneListOfPlaces → (files : Files) (named : Named) (w v : WideDescription) (q r : Query) → NamesWide files named w q → NamesWide files named v r →
+pub same_wide : OneListOfPlaces → (files : Files) (named : Named) (w v : WideDescription) (q r : Query) → NamesWide files named w q → NamesWide files named v r →
     (w ≡ v) × (q ≡ r)
 same_wide one files named w v q r first second =
     let places : first.places ≡ second.places = one files named.file first.places second.places first.read.all second.read.all in (

@@ -1,4 +1,5 @@
 pub mod Accepted
+pub mod CnfRuns
 pub mod Ended
 pub mod GeneralTexts
 pub mod Generally

@@ -42,7 +42,7 @@ claim_unless : (holds : Condition → Bool) (claim : Option Condition) → (IfSo
 claim_unless holds None fails = tt
 claim_unless holds (Some claim) fails = true_unless (holds claim) fails
 
-in_none : (row : List ℕ) → Contains [] row → ⊥
+pub in_none : (row : List ℕ) → Contains [] row → ⊥
 in_none row (k, below, is) = omega arith
 
 -- where a horizon has no history, each path that meets the conditions meets the claim

@@ -28,7 +28,7 @@ pub record EndedSurely (d : Description) (q : Query) (status : Status) (out : Li
   pub status_is : status ≡ sure_status ending
   pub out_is : out ≡ sure_text d q run
 
-query_named_so : (files : Files) (named : Named) (d : Description) (q : Query) → NamesUnclaimed files named d q → NamesQuery files named d q
+pub query_named_so : (files : Files) (named : Named) (d : Description) (q : Query) → NamesUnclaimed files named d q → NamesQuery files named d q
 query_named_so files named d q is = record { places = is.places; read = is.read; description = is.description; query = is.query; unrefused = is.unrefused }
 
 module _ (files : Files) (surely : Surely) (status : Status) (answer : IsAnswer status) where

@@ -1,4 +1,5 @@
 pub mod AcceptedLogs
+pub mod Cnfs
 pub mod Corollaries
 pub mod Models
 pub mod Ran

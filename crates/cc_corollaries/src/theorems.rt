@@ -1,10 +1,12 @@
 //! The corollaries, each the contract of a function that calls what it rests on.
-ghost use Rattle.cc_corollaries.specs.AcceptedLogs.{AcceptedMeansForEver, AcceptedMeansNoOthers};
+ghost use Rattle.cc_corollaries.specs.AcceptedLogs.{AcceptedMeansForEver, AcceptedMeansImpossible, AcceptedMeansModels, AcceptedMeansNoOtherModels, AcceptedMeansNoOthers};
+ghost use Rattle.cc_corollaries.specs.Cnfs.{AskedMeansTheFirstOfThem, CompleteMeansAllOfThem, NoModelMeansNone};
 ghost use Rattle.cc_corollaries.specs.Corollaries.{AskedMeansTheFirst, ClaimFailsMeansOneDoesNot, ClaimHoldsMeansAllMeetIt, CompleteMeansAll, ForeverFailsMeansOneDoesNot, ForeverFindsTheFirst, ForeverMeansAlways, ForeverMeansNoPlan, NoHistoryMeansNone};
 ghost use Rattle.cc_corollaries.specs.Models.{AskedMeansTheFirstModels, CompleteMeansAllModels, NoHistoryMeansNoModel};
 ghost use Rattle.cc_corollaries.specs.Values.{NothingSureMeansNone, SureMeansSo};
 
 use cc_describe::theorems::one_list_of_places;
+use cc_dimacs::theorems::one_cnf;
 
 /// List mode ends with code 1 over a query without a claim only where no path of a length of its range meets the conditions.
 pub fn no_history_means_none()
@@ -116,4 +118,46 @@ pub fn accepted_means_for_ever()
     ensures { AcceptedMeansForEver }
 {
     one_list_of_places();
+}
+
+/// Surecheck mode ends with code 0 only where no path that meets the conditions has a value that the log names.
+pub fn accepted_means_impossible()
+    ensures { AcceptedMeansImpossible }
+{
+    one_list_of_places();
+}
+
+/// Generalcheck mode ends with code 0 only where each row that the log names is a model.
+pub fn accepted_means_models()
+    ensures { AcceptedMeansModels }
+{
+    one_list_of_places();
+}
+
+/// Modelscheck mode ends with code 0 only where the log blocks all models of the CNF.
+pub fn accepted_means_no_other_models()
+    ensures { AcceptedMeansNoOtherModels }
+{
+    one_cnf();
+}
+
+/// Models mode ends with code 0 only where what it printed is all models of the CNF.
+pub fn complete_means_all_of_them()
+    ensures { CompleteMeansAllOfThem }
+{
+    one_cnf();
+}
+
+/// Models mode ends where as many were listed as were asked for only where what it printed is the first so many models.
+pub fn asked_means_the_first_of_them()
+    ensures { AskedMeansTheFirstOfThem }
+{
+    one_cnf();
+}
+
+/// Models mode ends with code 1 only where the CNF has no model.
+pub fn no_model_means_none()
+    ensures { NoModelMeansNone }
+{
+    one_cnf();
 }
